@@ -1,0 +1,3 @@
+pub mod Bridge
+pub mod Machine
+pub mod Stores

@@ -1,0 +1,205 @@
+-- Lists, contents and changes: the definitions of 01 that decide over every shortcut.
+use Prim.Native.Nat.{ℕ}
+use mathlib.Core.Path.{_≡_}
+use mathlib.Core.Logic.{_↔_, _⊎_}
+use mathlib.Core.Bool.{Bool, true, false, _&&_, cond}
+use mathlib.Core.List.{List, [], _∷_, _++_, map}
+use lib.ListN.{length, getD, replicate}
+use lib.IntN.{ℤ, pos, _+ℤ_}
+use lib.Signed.{leZ}
+use lib.Dec.{T}
+use Rattle.meaning.specs.Condition.{Condition, Row, meets}
+
+-- ---- lists of rows
+
+-- the values of some columns in order: a stored row, a full row, a row of the list
+abbrev pub Values : Type 0
+Values = List ℤ
+
+-- as a row from column 0 on
+abbrev pub look : Values → Row
+look vs i = getD vs i (pos 0)
+
+-- membership: tables are sets, and a list of rows stands for its set
+infix 40 _∈_
+abbrev pub _∈_ : Values → List Values → Type 0
+a ∈ [] = ⊥
+a ∈ (b ∷ l) = (a ≡ b) ⊎ (a ∈ l)
+
+-- what g makes of each row
+unfoldable pub each : (Values → List Values) → List Values → List Values
+each g [] = []
+each g (r ∷ rs) = g r ++ each g rs
+
+-- ---- questions
+
+-- "A column has a range lo..hi"
+pub record Range : Type 0 where
+  pub lo : ℤ
+  pub hi : ℤ
+
+unfoldable pub inRange : Range → ℤ → Bool
+inRange g x = leZ x (g .hi) && leZ (g .lo) x
+
+abbrev pub Table : Type 0
+Table = List Range
+
+-- the columns of some tables side by side, "numbered from 0 in table order"
+abbrev pub columnsOf : List Table → List Range
+columnsOf [] = []
+columnsOf (t ∷ ts) = t ++ columnsOf ts
+
+-- a value of each column, "every value in range"
+abbrev pub fits : List Range → Values → Bool
+fits [] [] = true
+fits [] (v ∷ vs) = false
+fits (g ∷ gs) [] = false
+fits (g ∷ gs) (v ∷ vs) = inRange g v && fits gs vs
+
+-- "Each column keeps its value, becomes a constant, or becomes a column of the same table plus a constant"
+pub data Mode : Type 0 where
+  keep : Mode
+  become : ℤ → Mode
+  shift : ℕ → ℤ → Mode
+
+pub data Change : Type 0 where
+  insert : List Values → Change
+  delete : Condition → Change
+  modify : Condition → List Mode → Change
+
+-- the tables before the changed one, the changed one and those after it; the visible columns in order; the condition C; the change.
+-- Column numbers run over all tables, also in the change
+pub record Question : Type 0 where
+  pub front : List Table
+  pub changed : Table
+  pub back : List Table
+  pub visible : List ℕ
+  pub condition : Condition
+  pub change : Change
+
+abbrev pub columns : Question → List Range
+columns q = columnsOf (q .front) ++ (q .changed ++ columnsOf (q .back))
+
+-- the changed table's first column
+abbrev pub first : Question → ℕ
+first q = length (columnsOf (q .front))
+
+-- ---- contents
+
+-- "Contents give each table a finite set of rows"
+pub record Contents : Type 0 where
+  pub front : List (List Values)
+  pub changed : List Values
+  pub back : List (List Values)
+
+abbrev pub TableFits : Table → List Values → Type 0
+TableFits t rows = (r : Values) → r ∈ rows → T (fits t r)
+
+abbrev pub TablesFit : List Table → List (List Values) → Type 0
+TablesFit [] [] = Unit {0}
+TablesFit [] (rs ∷ rss) = ⊥
+TablesFit (t ∷ ts) [] = ⊥
+TablesFit (t ∷ ts) (rs ∷ rss) = TableFits t rs × TablesFit ts rss
+
+pub record Valid (q : Question) (c : Contents) : Type 0 where
+  pub front : TablesFit (q .front) (c .front)
+  pub changed : TableFits (q .changed) (c .changed)
+  pub back : TablesFit (q .back) (c .back)
+
+-- ---- the list
+
+-- one row of each table side by side
+abbrev pub Joined : List (List Values) → Values → Type 0
+Joined [] s = s ≡ []
+Joined (rs ∷ rss) s = (r : Values) × (t : Values) × (r ∈ rs) × Joined rss t × (s ≡ r ++ t)
+
+-- "A full row is one row of each table side by side": before, in and after the changed table
+pub record Full : Type 0 where
+  pub before : Values
+  pub here : Values
+  pub after : Values
+
+abbrev pub values : Full → Values
+values x = x .before ++ (x .here ++ x .after)
+
+abbrev pub row : Full → Row
+row x = look (values x)
+
+pub record Within (c : Contents) (x : Full) : Type 0 where
+  pub before : Joined (c .front) (x .before)
+  pub here : x .here ∈ c .changed
+  pub after : Joined (c .back) (x .after)
+
+-- "the visible parts (in column order)"
+unfoldable pub part : Question → Row → Values
+part q r = map r (q .visible)
+
+-- "The list is the set of visible parts of the full rows that meet the list's condition C; such a row shows its part"
+abbrev pub Shows : Question → Row → Values → Type 0
+Shows q r v = T (meets (q .condition) r) × (part q r ≡ v)
+
+abbrev pub Listed : Question → Contents → Values → Type 0
+Listed q c v = (x : Full) × Within c x × Shows q (row x) v
+
+-- ---- the change
+
+-- a row of the changed table, at its columns
+abbrev pub place : Question → Values → Row
+place q r = look (replicate (first q) (pos 0) ++ r)
+
+abbrev pub newValue : Mode → Row → ℤ → ℤ
+newValue keep r old = old
+newValue (become k) r old = k
+newValue (shift j k) r old = r j +ℤ k
+
+abbrev pub newValues : List Mode → Values → Row → Values
+newValues [] vs r = vs
+newValues (m ∷ ms) [] r = []
+newValues (m ∷ ms) (v ∷ vs) r = newValue m r v ∷ newValues ms vs r
+
+-- "All new values come from the old row"
+abbrev pub newRow : Question → List Mode → Values → Values
+newRow q ms r = newValues ms r (place q r)
+
+-- what becomes of a row, from: is it selected, do its new values lie in range. "A selected row with a new value out of range stays as it is"
+abbrev pub outcome : Bool → Bool → Values → Values → Values
+outcome false fit old new = old
+outcome true true old new = new
+outcome true false old new = old
+
+-- Insert adds rows. "Delete removes its rows that meet a condition". "Modify takes each row that meets such a condition and whose
+-- new values all lie in range, and replaces it"
+abbrev pub rowsAfter : Question → Change → List Values → List Values
+rowsAfter q (insert new) rows = rows ++ new
+rowsAfter q (delete d) rows = each (λ r. cond (meets d (place q r)) [] (r ∷ [])) rows
+rowsAfter q (modify d ms) rows = each (λ r. outcome (meets d (place q r)) (fits (q .changed) (newRow q ms r)) r (newRow q ms r) ∷ []) rows
+
+abbrev pub afterChange : Question → Contents → Contents
+afterChange q c = record { front = c .front; changed = rowsAfter q (q .change) (c .changed); back = c .back }
+
+-- ---- the two verdicts
+
+abbrev pub Same : (Values → Type 0) → (Values → Type 0) → Type 0
+Same A B = (v : Values) → A v ↔ B v
+
+-- c shows that the change is relevant; c and d, that it is not computable
+abbrev pub Unchanged : Question → Contents → Type 0
+Unchanged q c = Same (Listed q c) (Listed q (afterChange q c))
+
+abbrev pub Alike : Question → Contents → Contents → Type 0
+Alike q c d = Same (Listed q c) (Listed q d) → Same (Listed q (afterChange q c)) (Listed q (afterChange q d))
+
+abbrev pub Family : Type 1
+Family = Contents → Type 0
+
+abbrev pub IrrelevantIn : Family → Question → Type 0
+IrrelevantIn W q = (c : Contents) → W c → Unchanged q c
+
+abbrev pub ComputableIn : Family → Question → Type 0
+ComputableIn W q = (c d : Contents) → W c → W d → Alike q c d
+
+abbrev pub Irrelevant : Question → Type 0
+Irrelevant q = IrrelevantIn (Valid q) q
+
+abbrev pub Computable : Question → Type 0
+Computable q = ComputableIn (Valid q) q

@@ -1,0 +1,5 @@
+pub mod Condition
+pub mod Contents
+pub mod WellFormed
+pub mod Trouble
+pub mod Witness

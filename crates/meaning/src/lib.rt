@@ -1,0 +1,4 @@
+// Nothing runs here: the crate holds definitions, in specs/, and laws of them, in proofs/.
+pub fn one() -> usize {
+    1
+}
