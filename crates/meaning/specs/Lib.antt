@@ -1,3 +1,4 @@
+pub mod Limits
 pub mod Condition
 pub mod Contents
 pub mod WellFormed
