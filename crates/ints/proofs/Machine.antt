@@ -7,7 +7,7 @@ use native.Mathlib.Omega.{arith}
 use lib.Dec.{T, leb, ltb, nltb→le, nleb→lt, not-T}
 use lib.IntN.{ℤ, pos, negsuc, negℤ, _+ℤ_, _-ℤ_}
 use lib.Signed.{_≤ℤ_, leZ, ltZ, mag}
-use mir.Syntax.{Width, w32, w64}
+use mir.Syntax.{Width}
 use mir.Val.{SFits, bits, hbits, sel, toZ, ofZ}
 use borrow.Author.Tests.{lt-ltb, le-ltb}
 use mir.Facts.{toZ-ofZ}

@@ -1,4 +1,6 @@
 // Little-endian i32 at a position of a slice: read, and written.
+pub mod weights;
+
 ghost use mathlib.Core.Path.{_≡_};
 ghost use Prim.Native.Nat.{_+_, _*_, _≤_};
 ghost use lib.ListN.{length};

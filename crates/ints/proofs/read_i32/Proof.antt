@@ -6,20 +6,13 @@ use mir.Facts.{toZ-ofZ}
 use Rattle.ints.specs.Bytes.{int32}
 use Rattle.ints.proofs.read_i32.Statement.{statement}
 use Rattle.ints.proofs.read_i32.Tie as tie
-use Rattle.ints.proofs.read_i32.Reads as reads
-use Rattle.ints.proofs.read_i32.Lts as lts
-use Rattle.ints.proofs.from_bits.Reads as from-bits-reads
-use Rattle.ints.proofs.unsigned_at.Reads as unsigned-at-reads
 
--- src/lib.rt:49:15
 unsigned-at-requires : tie.Need-unsigned-at-requires
 unsigned-at-requires c κs = search needs
 
--- src/lib.rt:49:5
 from-bits-requires : tie.Need-from-bits-requires
 from-bits-requires c κs = search needs
 
--- src/lib.rt:45:1
 returns : tie.Need-returns
 unfolding int32
 returns c =

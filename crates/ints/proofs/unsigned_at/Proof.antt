@@ -2,43 +2,31 @@ use borrow.Author.Needs.{needs}
 use Rattle.ints.specs.Bytes.{le32}
 use Rattle.ints.proofs.unsigned_at.Statement.{statement}
 use Rattle.ints.proofs.unsigned_at.Tie as tie
-use Rattle.ints.proofs.unsigned_at.Reads as reads
-use Rattle.ints.proofs.unsigned_at.Lts as lts
-use Rattle.ints.proofs.join.Reads as join-reads
 
--- src/lib.rt:20:10
 shared-slice-read-join : tie.Need-shared-slice-read-join
 shared-slice-read-join c = search needs
 
--- src/lib.rt:20:18
 add-join : tie.Need-add-join
 add-join c = search needs
 
--- src/lib.rt:20:16
 shared-slice-read-join-2 : tie.Need-shared-slice-read-join-2
 shared-slice-read-join-2 c = search needs
 
--- src/lib.rt:20:28
 add-join-2 : tie.Need-add-join-2
 add-join-2 c = search needs
 
--- src/lib.rt:20:26
 shared-slice-read-join-3 : tie.Need-shared-slice-read-join-3
 shared-slice-read-join-3 c = search needs
 
--- src/lib.rt:20:38
 add-join-3 : tie.Need-add-join-3
 add-join-3 c = search needs
 
--- src/lib.rt:20:36
 shared-slice-read-join-4 : tie.Need-shared-slice-read-join-4
 shared-slice-read-join-4 c = search needs
 
--- src/lib.rt:20:5
 join-requires : tie.Need-join-requires
 join-requires c κs = search needs
 
--- src/lib.rt:16:1
 returns : tie.Need-returns
 unfolding le32
 returns c = c .join .ensures

@@ -12,63 +12,46 @@ use Rattle.ints.proofs.Stores.{four-stores}
 use Rattle.ints.specs.Bytes.{put32, bytes4}
 use Rattle.ints.proofs.write_i32.Statement.{statement}
 use Rattle.ints.proofs.write_i32.Tie as tie
-use Rattle.ints.proofs.write_i32.Reads as reads
-use Rattle.ints.proofs.write_i32.Lts as lts
-use Rattle.ints.proofs.to_bits.Reads as to-bits-reads
 
--- src/lib.rt:56:9
 to-bits-requires : tie.Need-to-bits-requires
 to-bits-requires c κs = search needs
 
--- src/lib.rt:57:12
 cast-s : tie.Need-cast-s
 cast-s c = search needs
 
--- src/lib.rt:57:5
 slice-write-s : tie.Need-slice-write-s
 slice-write-s c = search needs
 
--- src/lib.rt:58:16
 cast-s-2 : tie.Need-cast-s-2
 cast-s-2 c = search needs
 
--- src/lib.rt:58:7
 add-s : tie.Need-add-s
 add-s c = search needs
 
--- src/lib.rt:58:5
 slice-write-s-2 : tie.Need-slice-write-s-2
 slice-write-s-2 c = simp length-set (omega arith)
 
--- src/lib.rt:59:16
 cast-s-3 : tie.Need-cast-s-3
 cast-s-3 c = search needs
 
--- src/lib.rt:59:7
 add-s-2 : tie.Need-add-s-2
 add-s-2 c = search needs
 
--- src/lib.rt:59:5
 slice-write-s-3 : tie.Need-slice-write-s-3
 slice-write-s-3 c = simp length-set (omega arith)
 
--- src/lib.rt:60:16
 cast-s-4 : tie.Need-cast-s-4
 cast-s-4 c = search needs
 
--- src/lib.rt:60:7
 add-s-3 : tie.Need-add-s-3
 add-s-3 c = search needs
 
--- src/lib.rt:60:5
 slice-write-s-4 : tie.Need-slice-write-s-4
 slice-write-s-4 c = simp length-set (omega arith)
 
--- src/lib.rt:52:1
 same-length : tie.Need-same-length
 same-length c = simp length-set
 
--- src/lib.rt:52:1
 returns : tie.Need-returns
 unfolding put32 bytes4
 returns c =
