@@ -1,0 +1,1 @@
+// The formulas of a question as programs over vertices: specs/Formulas says what they are.
