@@ -1,0 +1,14 @@
+use mathlib.Core.Path.{refl}
+use Rattle.grid.specs.Grid.{blank}
+use Rattle.grid.proofs.blank.Statement.{statement}
+use Rattle.grid.proofs.blank.Tie as tie
+use Rattle.grid.proofs.blank.Reads as reads
+use Rattle.grid.proofs.blank.Lts as lts
+
+-- src/lib.rt:9:1
+returns : tie.Need-returns
+unfolding blank
+returns c = refl
+
+pub blank-spec : {M : Type 1} → statement M
+blank-spec = tie.close (tie.spec returns)
