@@ -1,0 +1,3 @@
+pub mod Compiles
+pub mod Pieces
+pub mod Knows
