@@ -1,0 +1,2 @@
+// Questions: the declared types, and the reader that gives every byte string its answer.
+pub mod types;
