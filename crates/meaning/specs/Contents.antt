@@ -161,21 +161,24 @@ newValues (m ∷ ms) (v ∷ vs) r = newValue m r v ∷ newValues ms vs r
 abbrev pub newRow : Question → List Mode → Values → Values
 newRow q ms r = newValues ms r (place q r)
 
--- what becomes of a row, from: is it selected, do its new values lie in range. "A selected row with a new value out of range stays as it is"
-abbrev pub outcome : Bool → Bool → Values → Values → Values
-outcome false fit old new = old
-outcome true true old new = new
-outcome true false old new = old
+-- What is left of one row. "Delete removes its rows that meet a condition". "Modify takes each row that meets such a condition and whose
+-- new values all lie in range, and replaces it. A selected row with a new value out of range stays as it is"
+abbrev pub left : Question → Change → Values → List Values
+left q (insert new) r = r ∷ []
+left q (delete d) r = cond (meets d (place q r)) [] (r ∷ [])
+left q (modify d ms) r = cond (meets d (place q r)) (cond (fits (q .changed) (newRow q ms r)) (newRow q ms r ∷ []) (r ∷ [])) (r ∷ [])
 
--- Insert adds rows. "Delete removes its rows that meet a condition". "Modify takes each row that meets such a condition and whose
--- new values all lie in range, and replaces it"
-abbrev pub rowsAfter : Question → Change → List Values → List Values
-rowsAfter q (insert new) rows = rows ++ new
-rowsAfter q (delete d) rows = each (λ r. cond (meets d (place q r)) [] (r ∷ [])) rows
-rowsAfter q (modify d ms) rows = each (λ r. outcome (meets d (place q r)) (fits (q .changed) (newRow q ms r)) r (newRow q ms r) ∷ []) rows
+-- "Insert adds 0 to 4 rows to the changed table"
+abbrev pub added : Change → List Values
+added (insert new) = new
+added (delete d) = []
+added (modify d ms) = []
+
+abbrev pub afterBy : Question → Change → Contents → Contents
+afterBy q ch c = record { front = c .front; changed = each (left q ch) (c .changed) ++ added ch; back = c .back }
 
 abbrev pub afterChange : Question → Contents → Contents
-afterChange q c = record { front = c .front; changed = rowsAfter q (q .change) (c .changed); back = c .back }
+afterChange q c = afterBy q (q .change) c
 
 -- ---- the two verdicts
 

@@ -4,3 +4,4 @@ pub mod Contents
 pub mod WellFormed
 pub mod Trouble
 pub mod Witness
+pub mod Exactly

@@ -1,4 +1,1 @@
 // Nothing runs here: the crate holds definitions, in specs/, and laws of them, in proofs/.
-pub fn one() -> usize {
-    1
-}

@@ -1,0 +1,12 @@
+pub mod Truth
+pub mod Moving
+pub mod Tables
+pub mod Fates
+pub mod After
+pub mod Quiet
+pub mod Breaks
+pub mod Deletes
+pub mod Modifies
+pub mod Inserts
+pub mod Agree
+pub mod Hooks

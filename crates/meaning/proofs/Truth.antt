@@ -1,0 +1,61 @@
+-- Tests as facts.
+use mathlib.Core.Path.{_≡_, sym, ap, subst}
+use mathlib.Core.Logic.{_⊎_, inl, inr, _≢_}
+use mathlib.Core.Bool.{Bool, true, false, not, _&&_, _||_}
+use lib.IntN.{ℤ, pos, negsuc}
+use lib.Signed.{leZ, ≤ℤ-refl}
+use lib.Dec.{T, leb→le}
+use native.Mathlib.Nat.{le-antisymm}
+use Rattle.meaning.specs.Condition.{holds, unequal}
+
+pub and-l : (a b : Bool) → T (a && b) → T a
+and-l true b t = tt
+and-l false b t = t
+
+pub and-r : (a b : Bool) → T (a && b) → T b
+and-r true b t = t
+and-r false b t = absurd t
+
+pub and-in : (a b : Bool) → T a → T b → T (a && b)
+and-in true b s t = t
+and-in false b s t = s
+
+pub or-cases : (a b : Bool) → T (a || b) → T a ⊎ T b
+or-cases true b t = inl t
+or-cases false b t = inr t
+
+pub or-l : (a b : Bool) → T a → T (a || b)
+or-l true b t = tt
+or-l false b t = absurd t
+
+pub or-r : (a b : Bool) → T b → T (a || b)
+or-r true b t = tt
+or-r false b t = t
+
+pub test : (b : Bool) → T b ⊎ T (not b)
+test true = inl tt
+test false = inr tt
+
+-- the test of two numbers
+anti : (a b : ℤ) → T (leZ a b) → T (leZ b a) → a ≡ b
+anti (pos a) (pos b) s t = ap pos (le-antisymm (leb→le a b s) (leb→le b a t))
+anti (pos a) (negsuc b) s t = absurd s
+anti (negsuc a) (pos b) s t = absurd t
+anti (negsuc a) (negsuc b) s t = ap negsuc (le-antisymm (leb→le a b t) (leb→le b a s))
+
+pub not-unequal : (a b : ℤ) → (T (holds unequal a b) → ⊥) → a ≡ b
+not-unequal a b f = go (test (leZ a b && leZ b a))
+  where
+    go : T (leZ a b && leZ b a) ⊎ T (not (leZ a b && leZ b a)) → a ≡ b
+    go (inl t) = anti a b (and-l (leZ a b) (leZ b a) t) (and-r (leZ a b) (leZ b a) t)
+    go (inr t) = absurd (f t)
+
+pub unequal-not : (a b : ℤ) → T (holds unequal a b) → a ≢ b
+unequal-not a b t e = never (leZ a a) (≤ℤ-refl a .le) (subst (λ x. T (holds unequal a x)) (sym e) t)
+  where
+    never : (c : Bool) → T c → T (not (c && c)) → ⊥
+    never true s t = t
+    never false s t = s
+
+-- what a conjunction says, part by part
+pub ruleset parts = (and-l, and-r)
