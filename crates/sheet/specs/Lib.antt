@@ -1,0 +1,6 @@
+pub mod Facts
+pub mod Tree
+pub mod Grow
+pub mod Trees
+pub mod Rows
+pub mod Sheet
