@@ -1,3 +1,6 @@
 pub mod Compiles
 pub mod Pieces
 pub mod Knows
+pub mod Usable
+pub mod Sights
+pub mod Agreement
