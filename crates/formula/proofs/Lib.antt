@@ -4,3 +4,4 @@ pub mod Knows
 pub mod Usable
 pub mod Sights
 pub mod Agreement
+pub mod Runs

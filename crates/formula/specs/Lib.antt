@@ -4,3 +4,4 @@ pub mod Parts
 pub mod Known
 pub mod Vertices
 pub mod Formulas
+pub mod Cells
