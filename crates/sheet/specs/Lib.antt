@@ -4,3 +4,5 @@ pub mod Grow
 pub mod Trees
 pub mod Rows
 pub mod Sheet
+pub mod Answers
+pub mod Fast

@@ -1,0 +1,11 @@
+pub mod Proper
+pub mod Meets
+pub mod Sound
+pub mod Holds
+pub mod Grows
+pub mod Greatest
+pub mod Findings
+pub mod HandsOn
+pub mod NearStart
+pub mod Fasts
+pub mod Steps
