@@ -141,13 +141,13 @@ impl Solved {
     ///
     /// Every value is the least weight of a walk from vertex 0. The new edge can only lower values,
     /// by walks that pass it; so a lower value at its own start is a cycle below zero.
-    pub fn with(&self, from: usize, to: usize, weight: i64) -> Result<Solved, Edges> {
+    pub fn with(&self, from: usize, to: usize, weight: i64) -> Result<Solved, Box<Edges>> {
         let mut next = self.clone();
         next.edges.add(from, to, weight);
         let mut waiting = next.lower(from, to, weight);
         while let Some(at) = waiting.pop() {
             if at == from {
-                return Err(next.edges);
+                return Err(Box::new(next.edges));
             }
             for onward in 0..MOST_VERTICES {
                 if let Some(weight) = next.edges.weight(at, onward) {

@@ -64,7 +64,7 @@ struct Grower<'a> {
 impl Grower<'_> {
     /// The node for the places decided so far: 1 if false; else 2 if a cycle is below zero; else,
     /// if true, the formula is open; else 3.
-    fn node(&mut self, facts: Result<Solved, Edges>) -> Result<(), Stop> {
+    fn node(&mut self, facts: Result<Solved, Box<Edges>>) -> Result<(), Stop> {
         self.page.nodes += 1;
         if self.page.nodes > self.most_nodes {
             return Err(Stop::Tired);

@@ -5,7 +5,9 @@
 //! new fact lowers, and cycles are found by the least weights of walks of each length.
 
 pub mod check;
+mod draft;
 pub mod encode;
+pub mod examples;
 pub mod facts;
 pub mod formula;
 pub mod grow;
@@ -13,6 +15,7 @@ pub mod question;
 pub mod read;
 pub mod refusal;
 pub mod sheet;
+pub mod sketch;
 pub mod trouble;
 
 pub use encode::encode;

@@ -1,0 +1,134 @@
+//! The cases and bytes that the scope itself names.
+
+use oracle::examples::twelve;
+use oracle::question::Question;
+use oracle::sketch::Sketch;
+use oracle::{check, encode, read, verdict, write, Refusal, Verdict};
+
+fn case(name: &str) -> Vec<u8> {
+    let found = twelve().into_iter().find(|example| example.name == name);
+    encode(&found.expect("one of twelve").question)
+}
+
+fn word(question: &[u8], asked: u8) -> &'static str {
+    match verdict(asked, question).expect("a question") {
+        Verdict::Yes => "yes",
+        Verdict::No => "no",
+    }
+}
+
+fn sheet(question: &[u8], asked: u8) -> Vec<u8> {
+    let mut room = vec![0; 32_768];
+    let (_, length) = write(asked, question, &mut room).expect("a sheet");
+    room.truncate(length);
+    room
+}
+
+fn rows(name: &str, asked: u8) -> Vec<i32> {
+    let sheet = sheet(&case(name), asked);
+    let number = |four: &[u8]| i32::from_le_bytes(four.try_into().expect("four bytes"));
+    sheet[8..].chunks(4).map(number).collect()
+}
+
+#[test]
+fn twelve_verdicts() {
+    for example in twelve() {
+        let bytes = encode(&example.question);
+        assert_eq!(read(&bytes), Ok(example.question.clone()));
+        let said = [1, 2].map(|asked| word(&bytes, asked)).join("/");
+        assert_eq!(said, example.right, "case {}", example.name);
+    }
+}
+
+#[test]
+fn twelve_witnesses() {
+    assert_eq!(rows("b", 1), [3, 10, 9, 3]);
+    assert_eq!(rows("e", 1), [9, 10, 9, 9]);
+    assert_eq!(rows("e", 2), [9, 10, 9, 9, 9, 30, 9, 9]);
+    assert_eq!(rows("i", 1), [9, 9, 9, 9]);
+    assert_eq!(rows("j", 1), [9, 17, 9, 9]);
+    assert_eq!(rows("j", 2), [9, 30, 9, 9, 9, 17, 9, 9]);
+}
+
+#[test]
+fn case_a_in_bytes() {
+    let a = case("a");
+    assert_eq!(a.len(), 73);
+    let whole = [
+        0x56, 0x55, 0x53, 0x01, 0x00, 0x01, 0x00, 0x03, 0x03, 0x03, 0x02, 0x01, 0x00, 0x01, 0x01,
+        0x01,
+    ];
+    assert_eq!(sheet(&a, 1), whole);
+    assert_eq!(sheet(&a, 2).len(), 16);
+    let refused = |number, place| Err(Refusal { number, place });
+    assert_eq!(read(&a[..72]), refused(1, 69));
+    assert_eq!(read(&[&a[..], &[0]].concat()), refused(9, 73));
+    let mut high = a.clone();
+    high[69] = 31;
+    assert_eq!(read(&high), refused(5, 69));
+}
+
+#[test]
+fn shortcuts_that_are_wrong() {
+    let key = Sketch::new("K 0..9 v, V 0..30", "V>=10");
+    let five = key.modify(0, "K=3 K=5 V>=20 and or", "K:=5");
+    assert_eq!(word(&encode(&five), 2), "yes");
+    let above: Question = key.delete(0, "V>30");
+    assert_eq!(word(&encode(&above), 1), "yes");
+}
+
+#[test]
+fn asked_comes_first() {
+    for asked in (0..=255).filter(|asked| ![1, 2].contains(asked)) {
+        let refused = Refusal {
+            number: 20,
+            place: 0,
+        };
+        let mut room = [5; 9];
+        assert_eq!(verdict(asked, &[]), Err(refused));
+        assert_eq!(write(asked, &case("a"), &mut room), Err(refused));
+        assert_eq!(check(asked, &[], &[]), Err(refused));
+        assert_eq!(room, [5; 9]);
+    }
+}
+
+#[test]
+fn rooms_of_every_length() {
+    for asked in [1, 2] {
+        for example in twelve() {
+            let bytes = encode(&example.question);
+            let whole = sheet(&bytes, asked);
+            for length in 0..whole.len() + 5 {
+                let mut room = vec![0xa5; length];
+                let written = write(asked, &bytes, &mut room);
+                if length < whole.len() {
+                    assert_eq!(
+                        written,
+                        Err(Refusal {
+                            number: 21,
+                            place: 0
+                        })
+                    );
+                    assert!(room.iter().all(|&byte| byte == 0));
+                } else {
+                    assert_eq!(written.map(|(_, length)| length), Ok(whole.len()));
+                    let (front, back) = room.split_at(whole.len());
+                    assert!(front == whole && back.iter().all(|&byte| byte == 0));
+                }
+            }
+        }
+    }
+}
+
+#[test]
+fn a_refused_question_leaves_the_room() {
+    let mut room = [7; 40];
+    assert_eq!(
+        write(1, &case("a")[..72], &mut room),
+        Err(Refusal {
+            number: 1,
+            place: 69
+        })
+    );
+    assert_eq!(room, [7; 40]);
+}
