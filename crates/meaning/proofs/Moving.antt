@@ -23,12 +23,8 @@ module _ (P : ℕ → Type 0) (r s : Row) (same : (i : ℕ) → P i → r i ≡ 
 
   step-agree : (t : Token) (st : List Bool) → TokenUses P t → step r t st ≡ step s t st
   step-agree (compare op i x) st u = ap₂ (λ a b. holds op a b ∷ st) (same i (u .0)) (side-agree x (u .1))
-  step-agree both [] u = refl
-  step-agree both (a ∷ []) u = refl
-  step-agree both (a ∷ (b ∷ st)) u = refl
-  step-agree either [] u = refl
-  step-agree either (a ∷ []) u = refl
-  step-agree either (a ∷ (b ∷ st)) u = refl
+  step-agree both st u = refl
+  step-agree either st u = refl
   step-agree negate [] u = refl
   step-agree negate (a ∷ st) u = refl
 

@@ -1,11 +1,12 @@
 -- Tests as facts.
-use mathlib.Core.Path.{_≡_, sym, ap, subst}
+use mathlib.Core.Path.{_≡_, sym, subst}
 use mathlib.Core.Logic.{_⊎_, inl, inr, _≢_}
 use mathlib.Core.Bool.{Bool, true, false, not, _&&_, _||_}
-use lib.IntN.{ℤ, pos, negsuc}
+use lib.IntN.{ℤ}
 use lib.Signed.{leZ, ≤ℤ-refl}
-use lib.Dec.{T, leb→le}
-use native.Mathlib.Nat.{le-antisymm}
+use lib.Dec.{T}
+use native.Mathlib.Omega.{arith}
+use Rattle.ints.proofs.Bridge.{from-leZ, eq-in}
 use Rattle.meaning.specs.Condition.{holds, unequal}
 
 pub and-l : (a b : Bool) → T (a && b) → T a
@@ -38,10 +39,7 @@ test false = inr tt
 
 -- the test of two numbers
 anti : (a b : ℤ) → T (leZ a b) → T (leZ b a) → a ≡ b
-anti (pos a) (pos b) s t = ap pos (le-antisymm (leb→le a b s) (leb→le b a t))
-anti (pos a) (negsuc b) s t = absurd s
-anti (negsuc a) (pos b) s t = absurd t
-anti (negsuc a) (negsuc b) s t = ap negsuc (le-antisymm (leb→le a b t) (leb→le b a s))
+anti a b s t = eq-in a b (omega (arith, from-leZ a b s, from-leZ b a t))
 
 pub not-unequal : (a b : ℤ) → (T (holds unequal a b) → ⊥) → a ≡ b
 not-unequal a b f = go (test (leZ a b && leZ b a))
