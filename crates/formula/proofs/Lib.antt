@@ -5,3 +5,4 @@ pub mod Usable
 pub mod Sights
 pub mod Agreement
 pub mod Runs
+pub mod Rows
