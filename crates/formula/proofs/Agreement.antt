@@ -11,13 +11,14 @@ use Rattle.meaning.specs.Contents as M
 use Rattle.meaning.specs.WellFormed.{Uses, Reads}
 use Rattle.meaning.specs.Trouble.{modeAt, moved, differ, one, two}
 use Rattle.meaning.specs.Trouble as trouble
+use Rattle.question.specs.Accepted.{Shaped}
 use Rattle.formula.specs.Program.{Values, Program, falseI, run, truth}
 use Rattle.formula.specs.Compile.{Sight}
 use Rattle.formula.specs.Parts.{_and_, conditionProgram}
 use Rattle.formula.specs.Formulas.{Formula, firstSight, secondSight, after, oneRow, twoRows, boundedAll, differs, differsOver, C, moves, S, inserted, entering, irrelevance, computability, unlessAlone, formulas}
 use Rattle.formula.proofs.Compiles.{run-append, Sees}
-use Rattle.formula.proofs.Pieces.{Pushes, pushes-truth, pushes-false, pushes-and, pushes-or, pushes-not, pushes-condition, Shaped}
-use Rattle.formula.proofs.Usable.{Exists, All, ChangeUsable, Usable}
+use Rattle.formula.proofs.Pieces.{Pushes, pushes-truth, pushes-and, pushes-or, pushes-not, pushes-condition}
+use Rattle.formula.proofs.Usable.{Exists, ChangeUsable, Usable}
 use Rattle.formula.proofs.Sights.{after-sees, boundedAll-is, differsOver-is}
 
 -- the program's truth is the test's, on the rows that ρ shows

@@ -1,5 +1,5 @@
 -- Parts push one truth each, and joined parts the joined truth.
-use Prim.Native.Nat.{ℕ, zero, suc}
+use Prim.Native.Nat.{ℕ}
 use mathlib.Core.Path.{_≡_, refl, sym, ap, _∙_}
 use mathlib.Core.Bool.{Bool, true, false, not, _&&_, _||_}
 use mathlib.Core.List.{List, [], _∷_, _++_}
@@ -9,6 +9,7 @@ use lib.IntN.{pos}
 use Rattle.meaning.specs.Condition.{Op, compare, both, either, negate, Condition, Row, holds, sideOf}
 use Rattle.meaning.specs.Condition as C
 use Rattle.meaning.specs.WellFormed.{Uses}
+use Rattle.question.specs.Accepted.{leavesOne, Shaped}
 use Rattle.formula.specs.Program.{Values, Term, value, andI, orI, notI, trueI, falseI, Program, run, top, truth}
 use Rattle.formula.specs.Compile.{Sight, comparison, compile}
 use Rattle.formula.specs.Parts.{_and_, _or_, denied, conditionProgram}
@@ -48,24 +49,9 @@ module _ (ρ : Values) where
   pub pushes-comparison : (op : Op) (l r : Term) → Pushes ρ (comparison op l r) (holds op (value ρ l) (value ρ r))
   pushes-comparison op l r = record { runs = comparison-is ρ op l r }
 
--- a condition that never lacks an operand and ends with one value, from h values on
-unfoldable pub wellFormed : ℕ → Condition → Bool
-wellFormed zero [] = false
-wellFormed (suc zero) [] = true
-wellFormed (suc (suc h)) [] = false
-wellFormed h (compare op i s ∷ ts) = wellFormed (suc h) ts
-wellFormed zero (both ∷ ts) = false
-wellFormed (suc zero) (both ∷ ts) = false
-wellFormed (suc (suc h)) (both ∷ ts) = wellFormed (suc h) ts
-wellFormed zero (either ∷ ts) = false
-wellFormed (suc zero) (either ∷ ts) = false
-wellFormed (suc (suc h)) (either ∷ ts) = wellFormed (suc h) ts
-wellFormed zero (negate ∷ ts) = false
-wellFormed (suc h) (negate ∷ ts) = wellFormed (suc h) ts
-
 -- it leaves what lies under it alone
-frame : (r : Row) (c : Condition) (st under : List Bool) → T (wellFormed (length st) c) → (b : Bool) × (C.run r c st ≡ b ∷ []) × (C.run r c (st ++ under) ≡ b ∷ under)
-unfolding wellFormed C.run
+frame : (r : Row) (c : Condition) (st under : List Bool) → T (leavesOne (length st) c) → (b : Bool) × (C.run r c st ≡ b ∷ []) × (C.run r c (st ++ under) ≡ b ∷ under)
+unfolding leavesOne C.run
 frame r [] [] under w = absurd w
 frame r [] (a ∷ []) under w = (a, refl, refl)
 frame r [] (b ∷ (a ∷ st)) under w = absurd w
@@ -78,10 +64,6 @@ frame r (either ∷ ts) (a ∷ []) under w = absurd w
 frame r (either ∷ ts) (b ∷ (a ∷ st)) under w = frame r ts ((a || b) ∷ st) under w
 frame r (negate ∷ ts) [] under w = absurd w
 frame r (negate ∷ ts) (a ∷ st) under w = frame r ts (not a ∷ st) under w
-
-abbrev pub Shaped : Condition → Type 0
-Shaped [] = Unit {0}
-Shaped (t ∷ ts) = T (wellFormed 0 (t ∷ ts))
 
 pub pushes-condition : (P : ℕ → Type 0) (ρ : Values) → ρ 0 ≡ pos 0 → (σ : Sight) (r : Row) → Sees P ρ σ r → (c : Condition) → Uses P c → Shaped c → Pushes ρ (conditionProgram σ c) (C.meets c r)
 unfolding run C.run C.meets

@@ -12,11 +12,14 @@ use lib.Signed.{_≤ℤ_, leZ}
 use Rattle.ints.proofs.Bridge.{ints, +law}
 use Rattle.meaning.specs.Contents.{Question, Range, columns, look, fits, inRange, part}
 use Rattle.meaning.specs.Contents as M
+use Rattle.meaning.proofs.Truth.{and-l, and-r, and-in}
+use Rattle.meaning.proofs.Moving.{fits-length}
+use Rattle.question.specs.Accepted.{Every}
 use Rattle.formula.specs.Program.{Values, value}
 use Rattle.formula.specs.Vertices.{Ranges, Within, InRange}
 use Rattle.formula.specs.Formulas.{vertex, firstSight, among, secondSight, firstRanges, hiddenRanges, oneRow, twoRows, assign, tabulate, rowOf1, rowOf2}
 use Rattle.formula.proofs.Compiles.{Sees}
-use Rattle.formula.proofs.Usable.{Exists, All, Usable}
+use Rattle.formula.proofs.Usable.{Exists, Usable}
 
 -- ---- ranges, position by position
 
@@ -37,40 +40,26 @@ within-by ρ v (none ∷ rs) h = within-by ρ (suc v) rs (λ i. subst (λ j. Ran
 within-by ρ v (some g ∷ rs) h = let e : v + 0 ≡ v = omega arith in let b = rw e at (h 0) in
     (b .0, b .1, within-by ρ (suc v) rs (λ i. subst (λ j. Ranged (getD rs i none) (ρ j)) (omega arith) (h (suc i))))
 
-and-both : (a b : Bool) → T (a && b) → T a × T b
-and-both true b t = (tt, t)
-and-both false b t = absurd t
-
-both-and : (a b : Bool) → T a → T b → T (a && b)
-both-and true b s t = t
-both-and false b s t = s
-
 ranged-out : (g : Range) (x : ℤ) → T (inRange g x) → Ranged (some g) x
 unfolding inRange
-ranged-out g x t = let b = and-both (leZ x (g .hi)) (leZ (g .lo) x) t in (record { le = b .1 }, record { le = b .0 })
+ranged-out g x t = (record { le = and-r (leZ x (g .hi)) (leZ (g .lo) x) t }, record { le = and-l (leZ x (g .hi)) (leZ (g .lo) x) t })
 
 ranged-in : (g : Range) (x : ℤ) → Ranged (some g) x → T (inRange g x)
 unfolding inRange
-ranged-in g x b = both-and (leZ x (g .hi)) (leZ (g .lo) x) (b .1 .le) (b .0 .le)
+ranged-in g x b = and-in (leZ x (g .hi)) (leZ (g .lo) x) (b .1 .le) (b .0 .le)
 
 -- a row in range, and what stands after it
 fits-at : (gs : List Range) (u : M.Values) → T (fits gs u) → (hs : Ranges) (w : M.Values) → ((i : ℕ) → Ranged (getD hs i none) (look w i)) → (i : ℕ) → Ranged (getD (map some gs ++ hs) i none) (look (u ++ w) i)
 fits-at [] [] t hs w h i = h i
 fits-at [] (x ∷ u) t hs w h i = absurd t
 fits-at (g ∷ gs) [] t hs w h i = absurd t
-fits-at (g ∷ gs) (x ∷ u) t hs w h zero = ranged-out g x (and-both (inRange g x) (fits gs u) t .0)
-fits-at (g ∷ gs) (x ∷ u) t hs w h (suc i) = fits-at gs u (and-both (inRange g x) (fits gs u) t .1) hs w h i
+fits-at (g ∷ gs) (x ∷ u) t hs w h zero = ranged-out g x (and-l (inRange g x) (fits gs u) t)
+fits-at (g ∷ gs) (x ∷ u) t hs w h (suc i) = fits-at gs u (and-r (inRange g x) (fits gs u) t) hs w h i
 
 fits-tabulate : (gs : List Range) (f : ℕ → ℤ) → ((i : ℕ) → Ranged (getD (map some gs) i none) (f i)) → T (fits gs (tabulate (length gs) f))
 unfolding tabulate
 fits-tabulate [] f h = tt
-fits-tabulate (g ∷ gs) f h = both-and (inRange g (f 0)) (fits gs (tabulate (length gs) (λ i. f (suc i)))) (ranged-in g (f 0) (h 0)) (fits-tabulate gs (λ i. f (suc i)) (λ i. h (suc i)))
-
-pub fits-length : (gs : List Range) (u : M.Values) → T (fits gs u) → length u ≡ length gs
-fits-length [] [] t = refl
-fits-length [] (x ∷ u) t = absurd t
-fits-length (g ∷ gs) [] t = absurd t
-fits-length (g ∷ gs) (x ∷ u) t = ap suc (fits-length gs u (and-both (inRange g x) (fits gs u) t .1))
+fits-tabulate (g ∷ gs) f h = and-in (inRange g (f 0)) (fits gs (tabulate (length gs) (λ i. f (suc i)))) (ranged-in g (f 0) (h 0)) (fits-tabulate gs (λ i. f (suc i)) (λ i. h (suc i)))
 
 -- the ranges of the first row, and those after them
 ranged-first : (gs : List Range) (hs : Ranges) (i : ℕ) (x : ℤ) → Ranged (getD (map some gs ++ hs) i none) x → Ranged (getD (map some gs) i none) x

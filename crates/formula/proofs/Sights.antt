@@ -10,11 +10,11 @@ use Rattle.meaning.specs.Condition.{Row, holds, unequal, atMost, atLeast}
 use Rattle.meaning.specs.Contents.{Question, Mode, keep, become, shift, Range, Table, first, inRange, newValue}
 use Rattle.meaning.specs.WellFormed.{Reads}
 use Rattle.meaning.specs.Trouble.{modeAt, moved, kept, newFits, differOver}
+use Rattle.question.specs.Accepted.{Every}
 use Rattle.formula.specs.Program.{Values, Term, value, Program, andI, orI, run}
 use Rattle.formula.specs.Compile.{Sight, comparison, constantTerm, plus}
 use Rattle.formula.specs.Formulas.{newTerm, after, bounded, boundedAll, differsOver}
 use Rattle.formula.proofs.Compiles.{run-append, comparison-is, constant-is, plus-is, Sees}
-use Rattle.formula.proofs.Usable.{All}
 
 module _ (P : ℕ → Type 0) (ρ : Values) (z : ρ 0 ≡ pos 0) where
   module _ (σ : Sight) (r : Row) (sees : Sees P ρ σ r) where
@@ -75,7 +75,7 @@ module _ (P : ℕ → Type 0) (ρ : Values) (z : ρ 0 ≡ pos 0) where
 
   -- columns of two rows that differ, joined to what stands before them
   module _ (σ τ : Sight) (r s : Row) (sees : Sees P ρ σ r) (seesToo : Sees P ρ τ s) (mode : ℕ → Mode) where
-    pub differsOver-is : (is : List ℕ) → All P is → (b : Bool) (st : List Bool) → run ρ (differsOver mode σ τ is) (b ∷ st) ≡ (b || differOver mode is r s) ∷ st
+    pub differsOver-is : (is : List ℕ) → Every P is → (b : Bool) (st : List Bool) → run ρ (differsOver mode σ τ is) (b ∷ st) ≡ (b || differOver mode is r s) ∷ st
     unfolding run differsOver
     differsOver-is [] u b st = ap (λ c. c ∷ st) (sym (or-false b))
     differsOver-is (i ∷ is) u b st = go (kept (mode i)) (differsOver-is is (u .1))

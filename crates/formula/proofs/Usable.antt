@@ -1,18 +1,15 @@
--- What the laws of formulas ask of a question: its columns exist and its conditions leave one truth.
-use Prim.Native.Nat.{ℕ, _<_}
-use mathlib.Core.List.{List, [], _∷_}
-use lib.ListN.{length}
-use Rattle.meaning.specs.Contents.{Question, Change, insert, delete, modify, columns}
-use Rattle.meaning.specs.WellFormed.{Uses, Reads}
-use Rattle.formula.proofs.Pieces.{Shaped}
+-- What the laws of formulas ask of a question: its columns exist and its conditions leave one truth. An accepted one is usable.
+use Prim.Native.Nat.{ℕ, zero, suc, _+_, _≤_, _<_}
+use mathlib.Core.List.{List, [], _∷_, _++_}
+use native.Mathlib.Omega.{arith}
+use lib.ListN.{length, length-append}
+use Rattle.meaning.specs.Condition.{Condition, Token, compare, both, either, negate, Side, constant, column}
+use Rattle.meaning.specs.Contents.{Question, Change, insert, delete, modify, Mode, keep, become, shift, columns, columnsOf, first}
+use Rattle.meaning.specs.WellFormed.{Mine, SideUses, TokenUses, Uses, Reads, ChangeOk}
+use Rattle.question.specs.Accepted.{Every, Shaped, ChangeAccepted, Ascending, Accepted}
 
 abbrev pub Exists : Question → ℕ → Type 0
 Exists q i = i < length (columns q)
-
-module _ {A : Type 0} where
-  abbrev pub All : (A → Type 0) → List A → Type 0
-  All P [] = Unit {0}
-  All P (a ∷ l) = P a × All P l
 
 abbrev pub ChangeUsable : Question → Change → Type 0
 ChangeUsable q (insert new) = Unit {0}
@@ -22,5 +19,43 @@ ChangeUsable q (modify d ms) = Uses (Exists q) d × Shaped d × Reads (Exists q)
 pub record Usable (q : Question) : Type 0 where
   pub uses : Uses (Exists q) (q .condition)
   pub shaped : Shaped (q .condition)
-  pub visible : All (Exists q) (q .visible)
+  pub visible : Every (Exists q) (q .visible)
   pub change : ChangeUsable q (q .change)
+
+-- ---- a column of the changed table exists
+
+module _ (P Q : ℕ → Type 0) (f : (i : ℕ) → P i → Q i) where
+  side-weaken : (s : Side) → SideUses P s → SideUses Q s
+  side-weaken (constant k) u = tt
+  side-weaken (column i k) u = f i u
+
+  token-weaken : (t : Token) → TokenUses P t → TokenUses Q t
+  token-weaken (compare op i s) u = (f i (u .0), side-weaken s (u .1))
+  token-weaken both u = tt
+  token-weaken either u = tt
+  token-weaken negate u = tt
+
+  uses-weaken : (c : Condition) → Uses P c → Uses Q c
+  uses-weaken [] u = tt
+  uses-weaken (t ∷ c) u = (token-weaken t (u .0), uses-weaken c (u .1))
+
+  reads-weaken : (ms : List Mode) → Reads P ms → Reads Q ms
+  reads-weaken [] u = tt
+  reads-weaken (keep ∷ ms) u = reads-weaken ms u
+  reads-weaken (become k ∷ ms) u = reads-weaken ms u
+  reads-weaken (shift j k ∷ ms) u = (f j (u .0), reads-weaken ms (u .1))
+
+mine-exists : (q : Question) (i : ℕ) → Mine q i → Exists q i
+mine-exists q i m = omega (arith, length-append (columnsOf (q .front)) (q .changed ++ columnsOf (q .back)), length-append (q .changed) (columnsOf (q .back)), m .1)
+
+ascending-below : (low high : ℕ) (is : List ℕ) → Ascending low high is → Every (λ i. i < high) is
+ascending-below low high [] a = tt
+ascending-below low high (i ∷ is) a = (a .1, ascending-below (suc i) high is (a .2))
+
+pub usable : (q : Question) → Accepted q → Usable q
+usable q a = record { uses = a .exist; shaped = a .condition .shaped; visible = ascending-below 0 (length (columns q)) (q .visible) (a .visible); change = go (q .change) (a .wellFormed) (a .change) }
+  where
+    go : (ch : Change) → ChangeOk q ch → ChangeAccepted ch → ChangeUsable q ch
+    go (insert new) w c = tt
+    go (delete d) w c = (uses-weaken (Mine q) (Exists q) (mine-exists q) d w, c .shaped)
+    go (modify d ms) w c = (uses-weaken (Mine q) (Exists q) (mine-exists q) d (w .0), c .0 .shaped, reads-weaken (Mine q) (Exists q) (mine-exists q) ms (w .1))
