@@ -33,7 +33,7 @@ module _ (n : ℕ) (F : Formula) where
   Same (openAt x) (shut t′) = ⊥
   Same (openAt x) (openAt y) = (v : ℕ) → v < suc n → x v ≡ y v
 
-  join-same : (t t′ f f′ : Growth) → Same t t′ → Same f f′ → Same (join t f) (join t′ f′)
+  pub join-same : (t t′ f f′ : Growth) → Same t t′ → Same f f′ → Same (join t f) (join t′ f′)
   join-same (shut t) (shut t′) (shut f) (shut f′) h k = ap₂ split h k
   join-same (shut t) (shut t′) (shut f) (openAt y) h k = k
   join-same (shut t) (shut t′) (openAt x) (shut f′) h k = k

@@ -9,3 +9,4 @@ pub mod HandsOn
 pub mod NearStart
 pub mod Fasts
 pub mod Steps
+pub mod FastAmong

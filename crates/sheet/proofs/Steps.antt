@@ -6,11 +6,13 @@ use mathlib.Core.List.{List, [], _∷_, _++_}
 use lib.ListN.{length, getD, drop, drop-of-length-le}
 use lib.Seq.{drop-cons}
 use Rattle.grid.specs.Grid.{Grid, weight}
+use Rattle.grid.specs.Near.{Weights}
 use Rattle.grid.specs.Search.{search, dist}
 use Rattle.formula.specs.Formulas.{Formula}
 use Rattle.formula.specs.Known.{known}
 use Rattle.formula.specs.Program.{Place}
 use Rattle.sheet.specs.Facts.{decide}
+use Rattle.sheet.specs.Fast.{sideOf, calmNode, fast}
 use Rattle.sheet.specs.Grow.{openAt, join, atNode, grow}
 use Rattle.sheet.specs.Tree.{andThen, refused, falseNode, cycleNode, check}
 
@@ -47,3 +49,13 @@ module _ (n : ℕ) (F : Formula) (ds : List Bool) (g : Grid) where
     pub grow-end : length ps ≤ i → grow n F (drop i ps) ds g ≡ atNode (known (F .program) ds) (search (weight g) n) (dist (weight g) n) (openAt (dist (weight g) n))
     unfolding grow
     grow-end h = rw (drop-of-length-le ps h)
+
+    -- the fast rule, by the same number
+    module _ (near : Weights) where
+      pub fast-split : i < length ps → fast n F (drop i ps) ds g near ≡ calmNode (known (F .program) ds) (near 0) (join (sideOf n F (getD ps i some-place) (drop (suc i) ps) ds g near true) (sideOf n F (getD ps i some-place) (drop (suc i) ps) ds g near false))
+      unfolding fast
+      fast-split h = rw (drop-cons ps i some-place h)
+
+      pub fast-end : length ps ≤ i → fast n F (drop i ps) ds g near ≡ calmNode (known (F .program) ds) (near 0) (openAt (near 0))
+      unfolding fast
+      fast-end h = rw (drop-of-length-le ps h)
