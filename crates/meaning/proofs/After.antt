@@ -2,12 +2,12 @@
 use mathlib.Core.Path.{refl, subst}
 use mathlib.Core.Logic.{_↔_, _⊎_, inl, inr}
 use mathlib.Core.Bool.{Bool, true, false, not, _&&_, cond}
-use mathlib.Core.List.{List, [], _∷_, _++_}
+use mathlib.Core.List.{List, [], _∷_}
 use lib.Dec.{T, T-not}
-use Rattle.meaning.specs.Condition.{Condition, meets}
-use Rattle.meaning.specs.Contents.{Question, Change, insert, delete, modify, Mode, Values, _∈_, each, fits, newRow, place, left, added, afterBy, Contents, Valid, Full, row, Within, Shows, Listed, Same}
+use Rattle.meaning.specs.Condition.{meets}
+use Rattle.meaning.specs.Contents.{Question, Change, insert, delete, modify, Values, _∈_, each, fits, newRow, place, left, added, afterBy, Contents, Valid, Full, row, Within, Shows, Listed, Same}
 use Rattle.meaning.specs.WellFormed.{ChangeOk}
-use Rattle.meaning.specs.Trouble.{moved, newFits, moves}
+use Rattle.meaning.specs.Trouble.{moved, moves}
 use Rattle.meaning.proofs.Moving.{Wide, with, selected-same, fits-same, row-same}
 use Rattle.meaning.proofs.Tables.{in-left, in-right, in-cases, each-from, each-in, only, within-wide}
 use Rattle.meaning.proofs.Fates.{Fate, Then}

@@ -3,7 +3,7 @@ use mathlib.Core.Path.{_≡_, refl, sym, ap, _∙_, subst}
 use mathlib.Core.Logic.{_⊎_, inl, inr}
 use mathlib.Core.List.{List, [], _∷_, _++_, map}
 use lib.Dec.{T}
-use Rattle.meaning.specs.Contents.{Question, insert, Values, Table, TableFits, TablesFit, Joined, _∈_, each, columnsOf, look, part, Contents, Valid, Full, values, row, Listed, afterBy, Same}
+use Rattle.meaning.specs.Contents.{Question, insert, Values, Table, TableFits, TablesFit, Joined, _∈_, each, columnsOf, look, part, Contents, Valid, values, row, Listed, afterBy}
 use Rattle.meaning.specs.Trouble.{Formula, one, All, Met, AllFail, C, put, inserted, unlessAlone, irrelevance, computability}
 use Rattle.meaning.specs.Witness.{cut, none, witness, firstOf, secondOf}
 use Rattle.meaning.proofs.Moving.{Wide, with, fits-length, put-same}

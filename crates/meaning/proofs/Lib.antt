@@ -10,3 +10,4 @@ pub mod Modifies
 pub mod Inserts
 pub mod Agree
 pub mod Hooks
+pub mod Examples

@@ -1,9 +1,8 @@
 -- Yes: what has to hold of single rows, and of two rows that share their visible columns, for either verdict.
 use mathlib.Core.Path.{_≡_, refl, sym, _∙_}
-use mathlib.Core.Logic.{Iff·symm, Iff·trans, _⊎_, inl, inr}
+use mathlib.Core.Logic.{Iff·symm, _⊎_, inl, inr}
 use lib.Dec.{T}
-use Rattle.meaning.specs.Condition.{Row}
-use Rattle.meaning.specs.Contents.{Question, Change, Values, columns, fits, look, part, Contents, Valid, Full, values, row, Within, Shows, Listed, afterBy, Same}
+use Rattle.meaning.specs.Contents.{Question, Change, Values, columns, fits, look, part, Contents, Valid, Full, values, row, Within, Listed, afterBy, Same}
 use Rattle.meaning.specs.WellFormed.{ChangeOk}
 use Rattle.meaning.specs.Trouble.{C}
 use Rattle.meaning.proofs.Tables.{within-fits}

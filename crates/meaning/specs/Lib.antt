@@ -5,3 +5,4 @@ pub mod WellFormed
 pub mod Trouble
 pub mod Witness
 pub mod Exactly
+pub mod Examples
