@@ -5,6 +5,7 @@
 //! new fact lowers, and cycles are found by the least weights of walks of each length.
 
 pub mod check;
+pub mod contents;
 mod draft;
 pub mod encode;
 pub mod examples;
@@ -14,6 +15,7 @@ pub mod grow;
 pub mod question;
 pub mod read;
 pub mod refusal;
+pub mod sample;
 pub mod sheet;
 pub mod sketch;
 pub mod trouble;

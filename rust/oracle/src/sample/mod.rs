@@ -1,0 +1,11 @@
+//! Seeded questions and sheets, sound and damaged. The same seed gives the same ones everywhere.
+
+mod chance;
+mod damage;
+mod questions;
+mod sheets;
+
+pub use chance::Chance;
+pub use damage::{damaged, misfit};
+pub use questions::{question, tiny};
+pub use sheets::other_sheet;

@@ -1,0 +1,174 @@
+//! Sound questions of every shape.
+
+use super::Chance;
+use crate::question::*;
+use std::ops::Range;
+
+/// A question within all limits; some are at the limits.
+pub fn question(chance: &mut Chance) -> Question {
+    let widths = widths(chance);
+    let columns = columns(chance, widths.iter().sum());
+    finish(chance, widths, columns, MOST_COMPARISONS)
+}
+
+/// A question over one or two tables, two or three columns and a few values, for which all contents
+/// can be tried.
+pub fn tiny(chance: &mut Chance) -> Question {
+    let widths = chance
+        .among(&[&[1][..], &[2], &[2], &[3], &[1, 1], &[1, 2], &[2, 1]])
+        .to_vec();
+    let mut columns = Vec::new();
+    for _ in 0..widths.iter().sum() {
+        let lo = chance.between(-1, 1);
+        let hi = lo + chance.among(&[1, 1, 1, 2]);
+        let visible = chance.once_in(2);
+        columns.push(Column { lo, hi, visible });
+    }
+    let shown = chance.below(columns.len());
+    columns[shown].visible = true;
+    finish(chance, widths, columns, 3)
+}
+
+fn finish(chance: &mut Chance, widths: Vec<usize>, columns: Vec<Column>, most: usize) -> Question {
+    let changed = chance.below(widths.len());
+    let mut question = Question {
+        widths,
+        changed,
+        columns,
+        condition: Vec::new(),
+        change: Change::Insert(Vec::new()),
+    };
+    question.condition = condition(chance, &question.columns, 0..question.columns.len(), most);
+    question.change = change(chance, &question, most);
+    question
+}
+
+fn widths(chance: &mut Chance) -> Vec<usize> {
+    let tables = 1 + chance.below(MOST_TABLES);
+    let mut widths = vec![1; tables];
+    for _ in 0..chance.below(MOST_COLUMNS - tables + 1) {
+        widths[chance.below(tables)] += 1;
+    }
+    widths
+}
+
+fn columns(chance: &mut Chance, count: usize) -> Vec<Column> {
+    let wide = chance.once_in(4);
+    let mut columns = Vec::new();
+    for _ in 0..count {
+        let (lo, hi) = if wide {
+            wide_range(chance)
+        } else {
+            small_range(chance)
+        };
+        let visible = chance.once_in(2);
+        columns.push(Column { lo, hi, visible });
+    }
+    let shown = chance.below(count);
+    columns[shown].visible = true;
+    columns
+}
+
+fn small_range(chance: &mut Chance) -> (i32, i32) {
+    let lo = chance.between(-5, 5);
+    (lo, lo + chance.between(0, 12))
+}
+
+fn wide_range(chance: &mut Chance) -> (i32, i32) {
+    let mut end = || match chance.below(3) {
+        0 => chance.among(&[-MOST_VALUE, 1 - MOST_VALUE, MOST_VALUE - 1, MOST_VALUE]),
+        1 => chance.between(-MOST_VALUE, MOST_VALUE),
+        _ => chance.between(-9, 9),
+    };
+    let (one, other) = (end(), end());
+    (one.min(other), one.max(other))
+}
+
+/// A constant near what a column can hold; now and then one at the limits.
+fn constant(chance: &mut Chance, column: Column) -> i32 {
+    let near = chance.between(-2, 2);
+    match chance.below(16) {
+        0 => chance.among(&[
+            -MOST_CONSTANT,
+            1 - MOST_CONSTANT,
+            MOST_CONSTANT - 1,
+            MOST_CONSTANT,
+        ]),
+        1..=3 => column.lo + near,
+        4..=6 => column.hi + near,
+        _ => chance.between(column.lo, column.hi),
+    }
+}
+
+/// What is added to a column: small, or the distance of two ranges.
+fn addition(chance: &mut Chance, from: Column, to: Column) -> i32 {
+    match chance.below(8) {
+        0 => chance.among(&[-MOST_CONSTANT, MOST_CONSTANT]),
+        1 => to.lo - from.lo,
+        2 => to.hi - from.hi,
+        3 => 0,
+        _ => chance.between(-4, 4),
+    }
+}
+
+fn condition(chance: &mut Chance, columns: &[Column], own: Range<usize>, most: usize) -> Condition {
+    let count = chance.below(most + 1);
+    let mut tokens = Vec::new();
+    let mut values = 0;
+    let mut left = count;
+    let mut spare = MOST_TOKENS.saturating_sub(2 * count);
+    while left > 0 || values > 1 {
+        if values > 0 && spare > 0 && chance.once_in(6) {
+            spare -= 1;
+            tokens.push(Token::Not);
+        } else if left > 0 && (values < 2 || chance.once_in(2)) {
+            left -= 1;
+            values += 1;
+            tokens.push(comparison(chance, columns, &own));
+        } else {
+            values -= 1;
+            tokens.push(chance.among(&[Token::And, Token::And, Token::Or]));
+        }
+    }
+    tokens
+}
+
+fn comparison(chance: &mut Chance, columns: &[Column], own: &Range<usize>) -> Token {
+    let left = own.start + chance.below(own.len());
+    let side = side(chance, columns, own, left);
+    Token::Compare(chance.among(&OPS), left, side)
+}
+
+fn side(chance: &mut Chance, columns: &[Column], own: &Range<usize>, against: usize) -> Side {
+    if chance.once_in(2) {
+        return Side::Constant(constant(chance, columns[against]));
+    }
+    let right = own.start + chance.below(own.len());
+    Side::Column(right, addition(chance, columns[right], columns[against]))
+}
+
+fn change(chance: &mut Chance, question: &Question, most: usize) -> Change {
+    let own = question.changed_columns();
+    let columns = &question.columns;
+    match chance.below(3) {
+        0 => {
+            let count = chance.below(MOST_ROWS + 1);
+            let mut row = || {
+                columns[own.clone()]
+                    .iter()
+                    .map(|c| chance.between(c.lo, c.hi))
+                    .collect()
+            };
+            Change::Insert((0..count).map(|_| row()).collect())
+        }
+        1 => Change::Delete(condition(chance, columns, own, most)),
+        _ => {
+            let rows = condition(chance, columns, own.clone(), most);
+            let modes = own.clone().map(|column| match chance.below(3) {
+                0 => Mode::Keep,
+                _ => Mode::Become(side(chance, columns, &own, column)),
+            });
+            Change::Modify(rows, modes.collect())
+        }
+    }
+}
