@@ -6,3 +6,4 @@ pub mod Sights
 pub mod Agreement
 pub mod Runs
 pub mod Rows
+pub mod Stands
