@@ -5,3 +5,6 @@ pub mod Searches
 pub mod Grids
 pub mod Nears
 pub mod Among
+pub mod Rows
+pub mod Sums
+pub mod Relaxed

@@ -1,0 +1,33 @@
+use mathlib.Core.Path.{_∙_}
+use mir.Facts.{toZ-ofZ}
+use Rattle.grid.proofs.Rows.{read, sized}
+use borrow.Author.Needs.{needs}
+use Rattle.grid.proofs.edge.Statement.{statement}
+use Rattle.grid.proofs.edge.Tie as tie
+use Rattle.grid.proofs.edge.Reads as reads
+use Rattle.grid.proofs.edge.Lts as lts
+
+-- src/lib.rt:23:5
+mul-result : tie.Need-mul-result
+mul-result c = search needs
+
+-- src/lib.rt:23:5
+mul-result-2 : tie.Need-mul-result-2
+mul-result-2 c = search needs
+
+-- src/lib.rt:23:5
+index-1-result : tie.Need-index-1-result
+index-1-result c = search needs
+
+-- src/lib.rt:23:5
+index-2-result : tie.Need-index-2-result
+index-2-result c = search needs
+
+-- src/lib.rt:19:1
+returns : tie.Need-returns
+returns c =
+    let a = c .before .args in
+    toZ-ofZ (record { sfits = c .result .given }) ∙ read 17 (a .t1) (a .from) (a .to) (sized 17 (a .t1) _ (c .before .good .0)) (c .before .pre .0) (c .before .pre .1)
+
+pub edge-spec : {M : Type 1} → statement M
+edge-spec = tie.close (tie.spec mul-result mul-result-2 index-1-result index-2-result returns)

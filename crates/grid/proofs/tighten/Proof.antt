@@ -1,0 +1,77 @@
+use mathlib.Core.Path.{ap, _∙_}
+use lib.IntN.{ℤ, pos}
+use lib.ListN.{getD, set}
+use mir.Syntax.{w64}
+use mir.Val.{SFits}
+use mir.Facts.{toZ-ofZ}
+use Rattle.ints.proofs.Bridge.{minZ}
+use Rattle.grid.specs.Grid.{row, tighten}
+use Rattle.grid.proofs.Rows.{read, sized}
+use borrow.Author.Needs.{needs}
+use Rattle.grid.proofs.tighten.Statement.{statement}
+use Rattle.grid.proofs.tighten.Tie as tie
+use Rattle.grid.proofs.tighten.Reads as reads
+use Rattle.grid.proofs.tighten.Lts as lts
+use Rattle.grid.proofs.lesser.Reads as lesser-reads
+
+-- src/lib.rt:38:24
+mul-lesser : tie.Need-mul-lesser
+mul-lesser c = search needs
+
+-- src/lib.rt:38:24
+mul-lesser-2 : tie.Need-mul-lesser-2
+mul-lesser-2 c = search needs
+
+-- src/lib.rt:38:24
+index-1-lesser : tie.Need-index-1-lesser
+index-1-lesser c = search needs
+
+-- src/lib.rt:38:24
+index-2-lesser : tie.Need-index-2-lesser
+index-2-lesser c = search needs
+
+-- src/lib.rt:38:9
+lesser-requires : tie.Need-lesser-requires
+lesser-requires c κs = search needs
+
+-- src/lib.rt:39:5
+mul-least : tie.Need-mul-least
+mul-least c = search needs
+
+-- src/lib.rt:39:5
+mul-least-2 : tie.Need-mul-least-2
+mul-least-2 c = search needs
+
+-- src/lib.rt:39:5
+index-1-least : tie.Need-index-1-least
+index-1-least c = search needs
+
+-- src/lib.rt:39:5
+index-2-least : tie.Need-index-2-least
+index-2-least c = search needs
+
+-- src/lib.rt:33:1
+returns : tie.Need-returns
+unfolding tighten
+returns c =
+    let a = c .before .before .args in
+    let old : SFits w64 (getD (row (a .t1) (a .from)) (a .to) (pos 0)) = record { sfits = c .before .lesser-arg .given } in
+    ap (λ (z : ℤ). set (a .t1) (a .from) (set (row (a .t1) (a .from)) (a .to) z))
+    ( toZ-ofZ (record { sfits = c .lesser .ok })
+    ∙ (simp (toZ-ofZ, c .before .before .fits .k, old) at (c .lesser .ensures))
+    ∙ ap (λ (z : ℤ). minZ z (a .k)) (read 17 (a .t1) (a .from) (a .to) (sized 17 (a .t1) _ (c .before .before .good .0)) (c .before .before .pre .0) (c .before .before .pre .1)))
+
+pub tighten-spec : {M : Type 1} → statement M
+tighten-spec =
+    tie.close
+    (tie.spec
+    mul-lesser
+    mul-lesser-2
+    index-1-lesser
+    index-2-lesser
+    lesser-requires
+    mul-least
+    mul-least-2
+    index-1-least
+    index-2-least
+    returns)
