@@ -10,7 +10,7 @@ use lib.ListN.{length}
 use lib.Dec.{T, leb, leb→le, le→leb, nleb→lt}
 use lib.IntN.{ℤ, pos, _+ℤ_}
 use lib.Signed.{_≤ℤ_, _<ℤ_}
-use Rattle.ints.proofs.Bridge.{up, dn, ints, +law}
+use Rattle.ints.proofs.Bridge.{dn, ints, +law}
 use Rattle.grid.specs.Walk.{Below, closed, Sat}
 use Rattle.grid.specs.Grid.{far, least-weight}
 use Rattle.grid.specs.Search.{search, Shortest, Answer, NoNeg, dist}

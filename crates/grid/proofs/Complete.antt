@@ -11,7 +11,7 @@ use native.Mathlib.Decide.{decLt}
 use Rattle.ints.proofs.Bridge.{ints, +law}
 use Rattle.grid.proofs.Pigeon.{below-append, below-split, has-split, Has, Dup, pigeon}
 use Rattle.grid.proofs.Walks.{from-append, sat-from}
-use Rattle.grid.specs.Walk.{Below, from, closed, Sat}
+use Rattle.grid.specs.Walk.{Below, from, Sat}
 use Rattle.grid.specs.Search.{NoNeg, Greatest}
 
 has-last : (u : ℕ) (p : List ℕ) (t : ℕ) → Has u (p ++ t ∷ []) → Has u p ⊎ (u ≡ t)

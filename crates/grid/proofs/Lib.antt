@@ -8,3 +8,4 @@ pub mod Among
 pub mod Rows
 pub mod Sums
 pub mod Relaxed
+pub mod Round

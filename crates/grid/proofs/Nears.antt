@@ -12,12 +12,13 @@ use lib.IntN.{ℤ, pos, negsuc, _+ℤ_}
 use lib.Signed.{_≤ℤ_, _<ℤ_}
 use Rattle.ints.proofs.Bridge.{up, dn, ints, +law, min-spec}
 use Rattle.grid.specs.Walk.{from, Sat}
-use Rattle.grid.specs.Grid.{Grid, weight, tighten, blank, Sized, far, farN}
+use Rattle.grid.specs.Grid.{Grid, weight, tighten, blank, Sized, tabled, far, farN}
 use Rattle.grid.specs.Search.{NoNeg, search, Answer, dist}
 use Rattle.grid.specs.Near.{Weights, via, relax, nearBlank, Tightened, Walked, Reached, Closure}
 use Rattle.grid.proofs.Pigeon.{below-append}
 use Rattle.grid.proofs.Walks.{from-append, sat-from, sound}
 use Rattle.grid.proofs.Searches.{search-is, dist-greatest}
+use Rattle.grid.proofs.Rows.{tabled-at}
 use Rattle.grid.proofs.Grids.{tighten-keeps, tighten-le, tighten-new, blank-far}
 
 module _ (N : ℕ) where
@@ -174,17 +175,25 @@ blank-most u v = go (eqb u v)
     go true = omega ints
     go false = omega ints
 
-pub blank-closure : (N : ℕ) → Closure N (weight (blank N)) nearBlank
-blank-closure N = record { itself = λ u h. blank-same u u refl; edge = λ u v hu hv. rw blank-far (blank-most u v); triangle = λ u v x hu hv hx. tri u v x (ℕ-discrete u v) (ℕ-discrete v x); reached = λ u v hu hv. reach u v (ℕ-discrete u v) }
+-- of the first n vertices of a grid for N
+pub blank-closure-of : (n N : ℕ) → Closure n (weight (blank N)) nearBlank
+blank-closure-of n N = record { itself = λ u h. blank-same u u refl; edge = λ u v hu hv. rw blank-far (blank-most u v); triangle = λ u v x hu hv hx. tri u v x (ℕ-discrete u v) (ℕ-discrete v x); reached = λ u v hu hv. reach u v (ℕ-discrete u v) }
   where
     tri : (u v x : ℕ) → Dec (u ≡ v) → Dec (v ≡ x) → nearBlank u x ≤ℤ (nearBlank u v +ℤ nearBlank v x)
     tri u v x (yes d) e = omega (ints, ap (λ m. nearBlank m x) d, blank-same u v d, +law (nearBlank u v) (nearBlank v x))
     tri u v x (no d) (yes e) = omega (ints, ap (λ m. nearBlank u m) e, blank-same v x e, +law (nearBlank u v) (nearBlank v x))
     tri u v x (no d) (no e) = omega (ints, blank-most u x, blank-other u v d, blank-other v x e, +law (nearBlank u v) (nearBlank v x))
 
-    reach : (u v : ℕ) → Dec (u ≡ v) → Reached N (weight (blank N)) u v (nearBlank u v)
+    reach : (u v : ℕ) → Dec (u ≡ v) → Reached n (weight (blank N)) u v (nearBlank u v)
     reach u v (yes d) = inl (d, omega (ints, blank-same u v d))
     reach u v (no d) = inr ([], tt, omega (ints, blank-other u v d, blank-far N u v))
+
+pub blank-closure : (N : ℕ) → Closure N (weight (blank N)) nearBlank
+blank-closure N = blank-closure-of N N
+
+-- the least sums as a grid will do
+pub tabled-closure : (n N : ℕ) (w f : Weights) (g : Grid) → n ≤ N → Sized N g → Closure n w f → Closure n w (weight (tabled f n g))
+tabled-closure n N w f g h s c = closure-same n w f (weight (tabled f n g)) (tabled-at f N n g h s) c
 
 pub sat-tighten : (N : ℕ) (g : Grid) (x : (ℕ → ℤ)) (u v : ℕ) (k : ℤ) → Sat (weight g) N x → x v ≤ℤ (x u +ℤ k) → Sat (weight (tighten g u v k)) N x
 unfolding Sat

@@ -10,7 +10,7 @@ use lib.IntN.{ℤ, pos, _+ℤ_}
 use lib.Dec.{ltb}
 use lib.Signed.{_≤ℤ_, _<ℤ_, ltZ}
 use Rattle.ints.proofs.Bridge.{minZ}
-use Rattle.grid.specs.Walk.{Below, from, closed, Sat}
+use Rattle.grid.specs.Walk.{Below, closed, Sat}
 
 -- the least of f 0 .. f n
 unfoldable pub least : (ℕ → ℤ) → ℕ → ℤ

@@ -2,7 +2,8 @@
 ghost use mathlib.Core.Path.{_≡_};
 ghost use Prim.Native.Nat.{_<_, _≤_};
 ghost use lib.IntN.{pos, _+ℤ_};
-ghost use lib.ListN.{getD};
+ghost use lib.ListN.{length, getD};
+ghost use Rattle.grid.specs.Walk.{Below, closed};
 ghost use Rattle.ints.proofs.Bridge.{minZ};
 ghost use Rattle.meaning.specs.Limits.{mostVertices};
 ghost use Rattle.grid.specs.Grid.{blank, weight, tighten, filled, tabled, wide, farN, Bounded, RowWithin, AllWithin};
@@ -82,4 +83,22 @@ pub fn relax(near: [[i64; 17]; 17], n: usize, b: usize, a: usize, k: i64) -> [[i
         h[u] = new;
     }
     h
+}
+
+// The sum of a closed walk: along its edges and back to the first vertex.
+pub fn closing(g: [[i64; 17]; 17], vertices: &[u8]) -> i64
+    requires { ⌜ (0 < length (now vertices)) × (length (now vertices) ≤ mostVertices) × Below mostVertices (now vertices) ⌝ }
+    requires { ⌜ AllWithin farN mostVertices g ⌝ }
+    ensures { λ r. ⌜ r ≡ closed (weight g) (now (vertices .entry)) ⌝ }
+{
+    let n = vertices.len();
+    let first = vertices[0] as usize;
+    let mut at = first;
+    let mut sum: i64 = 0;
+    for i in 1..n {
+        let next = vertices[i] as usize;
+        sum = sum + g[at][next];
+        at = next;
+    }
+    sum + g[at][first]
 }

@@ -1,6 +1,6 @@
 use mathlib.Core.Path.{_≡_, refl, ap, _∙_}
 use mathlib.Core.List.{List, []}
-use Prim.Native.Nat.{ℕ, _+_, _-_, _≤_, _<_}
+use Prim.Native.Nat.{ℕ, _-_, _≤_}
 use native.Mathlib.Omega.{arith}
 use borrow.Author.Needs.{needs}
 use lib.IntN.{ℤ, pos}
@@ -59,9 +59,9 @@ unfolding blank diagonal
 loop-again c =
     let l = c .before .loop in
     let old : getD (l .h) (l .u) [] ≡ replicate mostVertices far =
-            ap (λ (h : List (List ℤ)). getD h (l .u) []) (l .inv .1)
-            ∙ filled-out diagonal (l .u) (blank mostVertices) (l .u) [] (omega arith)
-            ∙ getD-replicate mostVertices (l .u) (replicate mostVertices far) [] (omega arith) in
+    ap (λ (h : List (List ℤ)). getD h (l .u) []) (l .inv .1)
+    ∙ filled-out diagonal (l .u) (blank mostVertices) (l .u) [] (omega arith)
+    ∙ getD-replicate mostVertices (l .u) (replicate mostVertices far) [] (omega arith) in
     (search needs, filled-more diagonal (l .u) (blank mostVertices) (l .h) _ (l .inv .1) (ap (λ (m : List ℤ). set m (l .u) (pos 0)) old))
 
 -- src/lib.rt:44:1

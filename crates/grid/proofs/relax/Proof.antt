@@ -1,16 +1,14 @@
 use mathlib.Core.Path.{_≡_, refl, sym, ap, _∙_}
-use mathlib.Core.List.{List, []}
-use Prim.Native.Nat.{ℕ, _+_, _-_, _≤_, _<_}
+use Prim.Native.Nat.{_+_, _-_, _≤_}
 use native.Mathlib.Omega.{arith}
 use borrow.Author.Needs.{needs}
 use lib.IntN.{ℤ, pos, _+ℤ_}
 use lib.ListN.{getD}
 use mir.Syntax.{w64}
-use mir.Val.{SFits, toZ, ofZ}
+use mir.Val.{SFits, toZ}
 use mir.Facts.{toZ-ofZ}
 use Rattle.meaning.specs.Limits.{mostVertices}
-use Rattle.grid.specs.Grid.{Grid, row, weight, farN, wide, Bounded, filled, tabled}
-use Rattle.grid.specs.Near.{relax}
+use Rattle.grid.specs.Grid.{row, wide, Bounded, filled, tabled}
 use Rattle.grid.proofs.Rows.{filled-more, sized}
 use Rattle.grid.proofs.Sums.{exact-wide}
 use Rattle.grid.proofs.Relaxed.{newRow, reach-bounded, on-within, row-is}
@@ -71,10 +69,13 @@ add-reach c = simp (toZ-ofZ, c .before .before .before .before .before .fits .k,
 -- src/lib.rt:81:13
 relax-row-requires : tie.Need-relax-row-requires Inv-loop μ-loop
 relax-row-requires c κs =
-    let s = c .before .before .before .before .before in
-    ( s .pre .0 .0
-    , ( simp (toZ-ofZ, s .fits .k, edge-fits c, exact-wide _ (bounded c)) (bounded c)
-      , on-within (s .args .t1) (s .args .n) (s .args .b) (s .args .a) (s .args .k) (sized mostVertices (s .args .t1) _ (s .good .0)) (s .pre .0) (s .pre .1 .0) (s .pre .1 .1)))
+    let s = c .before .before .before .before .before in (
+      s .pre .0 .0,
+      (
+        simp (toZ-ofZ, s .fits .k, edge-fits c, exact-wide _ (bounded c)) (bounded c),
+        on-within (s .args .t1) (s .args .n) (s .args .b) (s .args .a) (s .args .k) (sized mostVertices (s .args .t1) _ (s .good .0)) (s .pre .0) (s .pre .1 .0) (s .pre .1 .1),
+      ),
+    )
 
 -- src/lib.rt:82:9
 mul-h : tie.Need-mul-h Inv-loop μ-loop
@@ -100,10 +101,11 @@ loop-again c =
     let s = r .before .before .before .before .before in
     let near = s .args .t1 in
     let new : c .relax-row .result ≡ newRow near (s .args .n) (s .args .b) (s .args .a) (s .args .k) (l .u) =
-            (simp (toZ-ofZ, s .fits .k, edge-fits r, exact-wide _ (bounded r)) at (c .relax-row .ensures))
-            ∙ row-is near (s .args .n) (s .args .b) (s .args .a) (s .args .k) (sized mostVertices near _ (s .good .0)) (s .pre .0) (s .pre .1 .0) (s .pre .1 .1) (l .u) (r .before .before .loop-test .taken) in
-    ( omega (arith, r .before .before .loop-test .taken)
-    , filled-more _ (l .u) near (l .h) _ (l .inv .1) (new ∙ ap (λ (z : ℤ). newRow near (s .args .n) (s .args .b) (s .args .a) z (l .u)) (sym (toZ-ofZ (s .fits .k)))))
+    (simp (toZ-ofZ, s .fits .k, edge-fits r, exact-wide _ (bounded r)) at (c .relax-row .ensures))
+    ∙ row-is near (s .args .n) (s .args .b) (s .args .a) (s .args .k) (sized mostVertices near _ (s .good .0)) (s .pre .0) (s .pre .1 .0) (s .pre .1 .1) (l .u) (r .before .before .loop-test .taken) in (
+      omega (arith, r .before .before .loop-test .taken),
+      filled-more _ (l .u) near (l .h) _ (l .inv .1) (new ∙ ap (λ (z : ℤ). newRow near (s .args .n) (s .args .b) (s .args .a) z (l .u)) (sym (toZ-ofZ (s .fits .k)))),
+    )
 
 -- src/lib.rt:70:1
 returns : tie.Need-returns Inv-loop μ-loop

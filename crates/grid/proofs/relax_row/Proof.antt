@@ -1,15 +1,14 @@
 use mathlib.Core.Path.{_≡_, refl, sym, ap, _∙_}
-use mathlib.Core.List.{List, []}
-use Prim.Native.Nat.{ℕ, _+_, _-_, _≤_, _<_}
+use mathlib.Core.List.{List}
+use Prim.Native.Nat.{ℕ, _+_, _-_, _≤_}
 use native.Mathlib.Omega.{arith}
 use borrow.Author.Needs.{needs}
 use lib.IntN.{ℤ, pos, _+ℤ_}
 use lib.ListN.{getD}
 use mir.Syntax.{w64}
-use mir.Val.{SFits, toZ, ofZ}
+use mir.Val.{SFits, toZ}
 use mir.Facts.{toZ-ofZ}
-use Rattle.ints.proofs.Bridge.{minZ, ints}
-use Rattle.ints.proofs.Machine.{machine, held}
+use Rattle.ints.proofs.Bridge.{minZ}
 use Rattle.grid.specs.Grid.{filled}
 use Rattle.grid.proofs.Rows.{filled-more}
 use Rattle.grid.proofs.Sums.{exact-two}
@@ -88,9 +87,10 @@ loop-again c =
     let s = r .before .before .before in
     let l = r .before .before .loop in
     let old : SFits w64 (getD (s .args .t1) (l .v) (pos 0)) = record { sfits = c .before .lesser-arg .given } in
-    let new : c .lesser .result ≡ better (s .args .t1) (s .args .t2) (s .args .reach) (l .v) = simp (toZ-ofZ, s .fits .reach, old, on-fits r, round-fits r) at (c .lesser .ensures) in
-    ( omega (arith, r .before .loop-test .taken)
-    , filled-more _ (l .v) (s .args .t1) (l .h) _ (l .inv .1) (toZ-ofZ (record { sfits = c .lesser .ok }) ∙ new ∙ ap (λ (z : ℤ). better (s .args .t1) (s .args .t2) z (l .v)) (sym (toZ-ofZ (s .fits .reach)))))
+    let new : c .lesser .result ≡ better (s .args .t1) (s .args .t2) (s .args .reach) (l .v) = simp (toZ-ofZ, s .fits .reach, old, on-fits r, round-fits r) at (c .lesser .ensures) in (
+      omega (arith, r .before .loop-test .taken),
+      filled-more _ (l .v) (s .args .t1) (l .h) _ (l .inv .1) (toZ-ofZ (record { sfits = c .lesser .ok }) ∙ new ∙ ap (λ (z : ℤ). better (s .args .t1) (s .args .t2) z (l .v)) (sym (toZ-ofZ (s .fits .reach)))),
+    )
 
 -- src/lib.rt:55:1
 returns : tie.Need-returns Inv-loop μ-loop

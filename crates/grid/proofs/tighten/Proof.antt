@@ -57,7 +57,7 @@ returns c =
     let a = c .before .before .args in
     let old : SFits w64 (getD (row (a .t1) (a .from)) (a .to) (pos 0)) = record { sfits = c .before .lesser-arg .given } in
     ap (λ (z : ℤ). set (a .t1) (a .from) (set (row (a .t1) (a .from)) (a .to) z))
-    ( toZ-ofZ (record { sfits = c .lesser .ok })
+    (toZ-ofZ (record { sfits = c .lesser .ok })
     ∙ (simp (toZ-ofZ, c .before .before .fits .k, old) at (c .lesser .ensures))
     ∙ ap (λ (z : ℤ). minZ z (a .k)) (read 17 (a .t1) (a .from) (a .to) (sized 17 (a .t1) _ (c .before .before .good .0)) (c .before .before .pre .0) (c .before .before .pre .1)))
 
