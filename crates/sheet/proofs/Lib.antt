@@ -10,3 +10,4 @@ pub mod NearStart
 pub mod Fasts
 pub mod Steps
 pub mod FastAmong
+pub mod Puts

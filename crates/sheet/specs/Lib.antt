@@ -6,3 +6,4 @@ pub mod Rows
 pub mod Sheet
 pub mod Answers
 pub mod Fast
+pub mod Room

@@ -1,1 +1,2 @@
 // The definitions stand in specs/, the laws of them in proofs/.
+mod room;
