@@ -1,11 +1,11 @@
 -- The full rows after a change, in terms of those before: one lemma for the three kinds.
-use mathlib.Core.Path.{refl, subst}
+use mathlib.Core.Path.{_≡_, refl, ap₂, subst}
 use mathlib.Core.Logic.{_↔_, _⊎_, inl, inr}
 use mathlib.Core.Bool.{Bool, true, false, not, _&&_, cond}
 use mathlib.Core.List.{List, [], _∷_}
 use lib.Dec.{T, T-not}
-use Rattle.meaning.specs.Condition.{meets}
-use Rattle.meaning.specs.Contents.{Question, Change, insert, delete, modify, Values, _∈_, each, fits, newRow, place, left, added, afterBy, Contents, Valid, Full, row, Within, Shows, Listed, Same}
+use Rattle.meaning.specs.Condition.{Condition, meets}
+use Rattle.meaning.specs.Contents.{Question, Change, insert, delete, modify, Mode, Values, _∈_, each, fits, newRow, place, left, added, afterBy, Contents, Valid, Full, row, Within, Shows, Listed, Same}
 use Rattle.meaning.specs.WellFormed.{ChangeOk}
 use Rattle.meaning.specs.Trouble.{moved, moves}
 use Rattle.meaning.proofs.Moving.{Wide, with, selected-same, fits-same, row-same}
@@ -39,12 +39,16 @@ module _ (P : Values → Type 0) where
   modified true false old new = stayed old new
   modified false g old new = stayed old new
 
+-- M of a full row is the test of its row of the changed table
+moves-same : (q : Question) (d : Condition) (ms : List Mode) → ChangeOk q (modify d ms) → (x : Full) → Wide q x → meets d (place q (x .here)) && fits (q .changed) (newRow q ms (x .here)) ≡ moves q d ms (row x)
+moves-same q d ms ok x w = ap₂ _&&_ (selected-same q x w d (ok .0)) (fits-same q x w ms (ok .1))
+
 left-exactly : (q : Question) (ch : Change) → ChangeOk q ch → (x : Full) → Wide q x → (v : Values)
     → ((s : Values) × (s ∈ left q ch (x .here)) × Shows q (row (with x s)) v) ↔ Then q (fateOf q ch) (row x) v
 left-exactly q (insert new) ok x w v = stayed (λ s. Shows q (row (with x s)) v) (x .here) (x .here)
 left-exactly q (delete d) ok x w v = rw (← selected-same q x w d ok) (deleted (λ s. Shows q (row (with x s)) v) (meets d (place q (x .here))) (x .here))
 left-exactly q (modify d ms) ok x w v =
-    rw (← selected-same q x w d (ok .0), ← fits-same q x w ms (ok .1), ← row-same q x w ms (ok .1) (ok .2))
+    rw (← moves-same q d ms ok x w, ← row-same q x w ms (ok .1) (ok .2))
     (modified (λ s. Shows q (row (with x s)) v) (meets d (place q (x .here))) (fits (q .changed) (newRow q ms (x .here))) (x .here) (newRow q ms (x .here)))
 
 -- ---- the list after the change
