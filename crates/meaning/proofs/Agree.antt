@@ -7,33 +7,17 @@ use Rattle.meaning.specs.WellFormed.{ChangeOk, WellFormed}
 use Rattle.meaning.specs.Trouble.{Formula, one, two, All, Met, AllFail, irrelevance, computability}
 use Rattle.meaning.specs.Witness.{firstOf, secondOf, Small}
 use Rattle.meaning.specs.Exactly.{Ample, Relevant, Uncomputable}
-use Rattle.meaning.proofs.Quiet.{Quiet, Settled, unchanged, alike}
-use Rattle.meaning.proofs.Breaks.{Breaks1, Breaks2, witness-valid, witness-small, empty-valid, empty-small}
-use Rattle.meaning.proofs.Inserts.{insert-quiet, insert-settled, insert-no1, insert-no2}
-use Rattle.meaning.proofs.Deletes.{delete-quiet, delete-settled, delete-no1, delete-no2}
-use Rattle.meaning.proofs.Modifies.{modify-quiet, modify-settled, modify-no1, modify-no2}
+use Rattle.meaning.proofs.Quiet.{unchanged, alike}
+use Rattle.meaning.proofs.Breaks.{Exact, witness-valid, witness-small, empty-valid, empty-small}
+use Rattle.meaning.proofs.Inserts.{insert-exact}
+use Rattle.meaning.proofs.Deletes.{delete-exact}
+use Rattle.meaning.proofs.Modifies.{modify-exact}
 
--- ---- the two halves, by the kind of change
-
-fails-quiet : (q : Question) (ch : Change) → ChangeOk q ch → AllFail q (irrelevance q ch) → Quiet q ch
-fails-quiet q (insert new) ok f = insert-quiet q new ok f
-fails-quiet q (delete d) ok f = delete-quiet q d f
-fails-quiet q (modify d ms) ok f = modify-quiet q d ms f
-
-fails-settled : (q : Question) (ch : Change) → ChangeOk q ch → AllFail q (computability q ch) → Settled q ch
-fails-settled q (insert new) ok f = insert-settled q new ok f
-fails-settled q (delete d) ok f = delete-settled q d f
-fails-settled q (modify d ms) ok f = modify-settled q d ms f
-
-met-breaks1 : (q : Question) (ch : Change) → ChangeOk q ch → All (λ φ. (m : Met q φ) → Breaks1 q ch (firstOf q ch φ m)) (irrelevance q ch)
-met-breaks1 q (insert new) ok = insert-no1 q new ok
-met-breaks1 q (delete d) ok = delete-no1 q d ok
-met-breaks1 q (modify d ms) ok = modify-no1 q d ms ok
-
-met-breaks2 : (q : Question) (ch : Change) → ChangeOk q ch → All (λ φ. (m : Met q φ) → Breaks2 q ch (firstOf q ch φ m) (secondOf q ch φ m)) (computability q ch)
-met-breaks2 q (insert new) ok = insert-no2 q new ok
-met-breaks2 q (delete d) ok = delete-no2 q d ok
-met-breaks2 q (modify d ms) ok = modify-no2 q d ms ok
+-- the three kinds
+exact : (q : Question) (ch : Change) → ChangeOk q ch → Exact q ch
+exact q (insert new) ok = insert-exact q new ok
+exact q (delete d) ok = delete-exact q d ok
+exact q (modify d ms) ok = modify-exact q d ms ok
 
 -- ---- the contents that rows which meet a formula stand for
 
@@ -55,11 +39,11 @@ all-imp P Q f (φ ∷ l) a = (f φ (a .0), all-imp P Q f l (a .1))
 -- ---- no: rows that meet a formula give contents, at most one row a table, that show it
 
 pub relevant : (q : Question) → WellFormed q → All (λ φ. (m : Met q φ) → Relevant q (firstOf q (q .change) φ m)) (irrelevance q (q .change))
-relevant q ok = all-imp _ _ (λ φ b m. let f = first-fine q (q .change) φ m in record { valid = f .0; small = f .1; changes = b m }) (irrelevance q (q .change)) (met-breaks1 q (q .change) ok)
+relevant q ok = all-imp _ _ (λ φ b m. let f = first-fine q (q .change) φ m in record { valid = f .0; small = f .1; changes = b m }) (irrelevance q (q .change)) (exact q (q .change) ok .broken1)
 
 pub uncomputable : (q : Question) → WellFormed q → All (λ φ. (m : Met q φ) → Uncomputable q (firstOf q (q .change) φ m) (secondOf q (q .change) φ m)) (computability q (q .change))
 uncomputable q ok = all-imp _ _ (λ φ b m. let f = first-fine q (q .change) φ m in let s = second-fine q (q .change) φ m in record { valid = (f .0, s .0); small = (f .1, s .1); before = b m .0; after = b m .1 })
-    (computability q (q .change)) (met-breaks2 q (q .change) ok)
+    (computability q (q .change)) (exact q (q .change) ok .broken2)
 
 pub not-irrelevant : {q : Question} {c : Contents} → Relevant q c → ¬ Irrelevant q
 not-irrelevant {q} {c} r h = r .changes (h c (r .valid))
@@ -71,18 +55,22 @@ not-computable {q} {c} {d} r h = r .after (h c d (r .valid .0) (r .valid .1) (r 
 
 pub irrelevant-exactly : (q : Question) → WellFormed q → (W : Family) → Ample q W → AllFail q (irrelevance q (q .change)) ↔ IrrelevantIn W q
 irrelevant-exactly q ok W w = (
-  λ f c o. unchanged q (q .change) ok (fails-quiet q (q .change) ok f) c (w .inside c o),
+  λ f c o. unchanged q (q .change) ok (exact q (q .change) ok .quiet f) c (w .inside c o),
   λ h. all-imp _ _ (λ φ r m. r m .changes (h (firstOf q (q .change) φ m) (w .holds _ (r m .valid) (r m .small)))) (irrelevance q (q .change)) (relevant q ok),
 )
 
 pub computable-exactly : (q : Question) → WellFormed q → (W : Family) → Ample q W → AllFail q (computability q (q .change)) ↔ ComputableIn W q
 computable-exactly q ok W w = (
-  λ f c d o p. alike q (q .change) ok (fails-settled q (q .change) ok f) c d (w .inside c o) (w .inside d p),
+  λ f c d o p. alike q (q .change) ok (exact q (q .change) ok .settled f) c d (w .inside c o) (w .inside d p),
   λ h. all-imp _ _ (λ φ r m. r m .after (h (firstOf q (q .change) φ m) (secondOf q (q .change) φ m) (w .holds _ (r m .valid .0) (r m .small .0)) (w .holds _ (r m .valid .1) (r m .small .1)) (r m .before))) (computability q (q .change)) (uncomputable q ok),
 )
 
-all-contents : (q : Question) → Ample q (Valid q)
+-- the family of all valid contents; and the least one, so that contents of at most one row a table decide both verdicts
+pub all-contents : (q : Question) → Ample q (Valid q)
 all-contents q = record { inside = λ c o. o; holds = λ c o s. o }
+
+pub small-contents : (q : Question) → Ample q (λ c. Valid q c × Small c)
+small-contents q = record { inside = λ c o. o .0; holds = λ c o s. (o, s) }
 
 pub irrelevant-agrees : (q : Question) → WellFormed q → AllFail q (irrelevance q (q .change)) ↔ Irrelevant q
 irrelevant-agrees q ok = irrelevant-exactly q ok (Valid q) (all-contents q)

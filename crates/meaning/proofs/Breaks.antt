@@ -9,12 +9,12 @@ use lib.Dec.{T}
 use Rattle.meaning.specs.Condition.{Row}
 use Rattle.meaning.specs.Contents.{Question, Change, insert, delete, modify, Values, _∈_, each, added, afterBy, look, Contents, Valid, row, Shows, Listed, Same}
 use Rattle.meaning.specs.WellFormed.{ChangeOk}
-use Rattle.meaning.specs.Trouble.{C}
-use Rattle.meaning.specs.Witness.{cut, contentsOf, hereOf, witness, empty, Small}
+use Rattle.meaning.specs.Trouble.{Formula, All, Met, AllFail, C, irrelevance, computability}
+use Rattle.meaning.specs.Witness.{cut, contentsOf, hereOf, witness, empty, firstOf, secondOf, Small}
 use Rattle.meaning.proofs.Tables.{cut-values, cut-fits, alone-fit, alone-joined, alone-only, alone-small, none-fit, none-small, only}
 use Rattle.meaning.proofs.Fates.{Then}
 use Rattle.meaning.proofs.After.{fateOf, Among, listed-after}
-use Rattle.meaning.proofs.Quiet.{InRange}
+use Rattle.meaning.proofs.Quiet.{InRange, Quiet, Settled}
 
 -- ---- the witnesses are valid contents with at most one row a table
 
@@ -71,7 +71,22 @@ Breaks1 q ch c = ¬ Same (Listed q c) (Listed q (afterBy q ch c))
 abbrev pub Breaks2 : Question → Change → Contents → Contents → Type 0
 Breaks2 q ch c d = Same (Listed q c) (Listed q d) × ¬ Same (Listed q (afterBy q ch c)) (Listed q (afterBy q ch d))
 
--- a change that adds no row
+-- ---- what is shown of each kind of change: yes from formulas that fail, no from rows that meet one
+
+abbrev pub Broken1 : Question → Change → Formula → Type 0
+Broken1 q ch φ = (m : Met q φ) → Breaks1 q ch (firstOf q ch φ m)
+
+abbrev pub Broken2 : Question → Change → Formula → Type 0
+Broken2 q ch φ = (m : Met q φ) → Breaks2 q ch (firstOf q ch φ m) (secondOf q ch φ m)
+
+pub record Exact (q : Question) (ch : Change) : Type 0 where
+  pub quiet : AllFail q (irrelevance q ch) → Quiet q ch
+  pub settled : AllFail q (computability q ch) → Settled q ch
+  pub broken1 : All (Broken1 q ch) (irrelevance q ch)
+  pub broken2 : All (Broken2 q ch) (computability q ch)
+
+-- ---- a change that adds no row
+
 module _ (q : Question) (ch : Change) (ok : ChangeOk q ch) (bare : (r : Values) → ¬ (r ∈ added ch)) where
   module _ (u : Values) (h : InRange q u) where
     shown : Same (Listed q (oneRow q u)) (Shows q (look u))

@@ -1,16 +1,16 @@
--- Insert: yes from formulas that fail, no from rows that meet one.
+-- Insert: its formulas are exact.
 use mathlib.Core.Path.{_≡_, refl, sym, ap, _∙_, subst}
 use mathlib.Core.Logic.{_⊎_, inl, inr}
 use mathlib.Core.List.{List, [], _∷_, _++_, map}
 use lib.Dec.{T}
 use Rattle.meaning.specs.Contents.{Question, insert, Values, Table, TableFits, TablesFit, Joined, _∈_, each, columnsOf, look, part, Contents, Valid, values, row, Listed, afterBy}
-use Rattle.meaning.specs.Trouble.{Formula, one, All, Met, AllFail, C, put, inserted, unlessAlone, irrelevance, computability}
-use Rattle.meaning.specs.Witness.{cut, none, witness, firstOf, secondOf}
+use Rattle.meaning.specs.Trouble.{Formula, one, All, Met, AllFail, C, put, inserted, unlessAlone}
+use Rattle.meaning.specs.Witness.{cut, none, witness}
 use Rattle.meaning.proofs.Moving.{Wide, with, fits-length, put-same}
 use Rattle.meaning.proofs.Tables.{joined-fits, fits-append, cut-fits, cut-values, alone-joined}
 use Rattle.meaning.proofs.After.{adding}
-use Rattle.meaning.proofs.Quiet.{InRange, Quiet, Settled}
-use Rattle.meaning.proofs.Breaks.{Breaks1, Breaks2}
+use Rattle.meaning.proofs.Quiet.{InRange}
+use Rattle.meaning.proofs.Breaks.{Broken1, Broken2, Exact}
 
 all-at : (P : Formula → Type 0) (g : Values → Formula) (l : List Values) → All P (map g l) → (n : Values) → n ∈ l → P (g n)
 all-at P g [] a n h = absurd h
@@ -41,27 +41,18 @@ module _ (q : Question) (new : List Values) (ok : TableFits (q .changed) new) wh
       let i : InRange q (values x) = fits-append (columnsOf (q .front)) (q .changed ++ columnsOf (q .back)) (x .before) (n ++ x .after) b (fits-append (q .changed) (columnsOf (q .back)) n (x .after) (ok n h) a) in
       all-at (λ φ. ¬ Met q φ) (λ n. one (λ r. C q (put q n r))) new f n h (values x, i, rw (← put-same q x w n (ok n h)) (t .2 .0))
 
-  pub insert-quiet : AllFail q (irrelevance q (insert new)) → Quiet q (insert new)
-  insert-quiet f = record { remain = λ u i c. inl tt; enter = λ u i m. absurd m; same = λ u i m. absurd m; fresh = barren f }
-
-  pub insert-settled : AllFail q (computability q (insert new)) → Settled q (insert new)
-  insert-settled f = record { enter = λ u i m. absurd m; together = λ u w p s. inl tt; both = λ u w p m. absurd m; mixed = λ u w p m. absurd m; fresh = go (q .front) (q .back) refl refl f }
-    where
-      Fresh : Type 0
-      Fresh = (c d : Contents) → Valid q c → Valid q d → (v : Values) → Listed q (adding (insert new) c) v → Listed q (adding (insert new) d) v
-
-      go : (a b : List Table) → q .front ≡ a → q .back ≡ b → AllFail q (unlessAlone q a b (inserted q new)) → Fresh
-      go [] [] e g h c d o p v t = (
-        t .0,
-        record {
-          before = lonely (c .front) (d .front) (t .0 .before) (rw e at (o .front)) (rw e at (p .front)) (t .1 .before);
-          here = t .1 .here;
-          after = lonely (c .back) (d .back) (t .0 .after) (rw g at (o .back)) (rw g at (p .back)) (t .1 .after);
-        },
-        t .2,
-      )
-      go [] (t ∷ ts) e g h c d o p v l = absurd (barren h c o v l)
-      go (t ∷ ts) us e g h c d o p v l = absurd (barren h c o v l)
+  fresh : (a b : List Table) → q .front ≡ a → q .back ≡ b → AllFail q (unlessAlone q a b (inserted q new)) → (c d : Contents) → Valid q c → Valid q d → (v : Values) → Listed q (adding (insert new) c) v → Listed q (adding (insert new) d) v
+  fresh [] [] e g h c d o p v t = (
+    t .0,
+    record {
+      before = lonely (c .front) (d .front) (t .0 .before) (rw e at (o .front)) (rw e at (p .front)) (t .1 .before);
+      here = t .1 .here;
+      after = lonely (c .back) (d .back) (t .0 .after) (rw g at (o .back)) (rw g at (p .back)) (t .1 .after);
+    },
+    t .2,
+  )
+  fresh [] (t ∷ ts) e g h c d o p v l = absurd (barren h c o v l)
+  fresh (t ∷ ts) us e g h c d o p v l = absurd (barren h c o v l)
 
   -- the inserted row in a full row
   insert-listed : (n : Values) → n ∈ new → (u : Values) → InRange q u → T (C q (put q n (look u))) → Listed q (afterBy q (insert new) (witness q (insert new) u)) (part q (put q n (look u)))
@@ -71,24 +62,22 @@ module _ (q : Question) (new : List Values) (ok : TableFits (q .changed) new) wh
       let e : row (with (cut q u) n) ≡ put q n (look u) = put-same q (cut q u) w n (ok n h) ∙ ap (λ l. put q n (look l)) (cut-values q u) in
       (with (cut q u) n, record { before = alone-joined (q .front) (cut q u .before) (k .before); here = h; after = alone-joined (q .back) (cut q u .after) (k .after) }, (subst (λ r. T (C q r)) (sym e) t, ap (part q) e))
 
-  pub insert-no1 : All (λ φ. (m : Met q φ) → Breaks1 q (insert new) (firstOf q (insert new) φ m)) (irrelevance q (insert new))
-  insert-no1 = all-map (λ φ. (m : Met q φ) → Breaks1 q (insert new) (firstOf q (insert new) φ m)) (λ n. one (λ r. C q (put q n r))) new
-      (λ n h m same. same (part q (put q n (look (m .0)))) .1 (insert-listed n h (m .0) (m .1) (m .2)) .1 .here)
+  -- no full row before; none after either where another table is empty
+  against-empty : ((s : Values) → ¬ Joined (none (q .front)) s) ⊎ ((s : Values) → ¬ Joined (none (q .back)) s) → All (Broken2 q (insert new)) (inserted q new)
+  against-empty f = all-map (Broken2 q (insert new)) (λ n. one (λ r. C q (put q n r))) new (λ n h m. (
+    λ v. (λ s. absurd (s .1 .here), λ s. absurd (s .1 .here)),
+    λ same. let s = same (part q (put q n (look (m .0)))) .0 (insert-listed n h (m .0) (m .1) (m .2)) in elim f [ inl g ↦ g (s .0 .before) (s .1 .before) | inr g ↦ g (s .0 .after) (s .1 .after) ],
+  ))
 
-  pub insert-no2 : All (λ φ. (m : Met q φ) → Breaks2 q (insert new) (firstOf q (insert new) φ m) (secondOf q (insert new) φ m)) (computability q (insert new))
-  insert-no2 = go (q .front) (q .back) refl refl
-    where
-      Broken : Formula → Type 0
-      Broken φ = (m : Met q φ) → Breaks2 q (insert new) (firstOf q (insert new) φ m) (secondOf q (insert new) φ m)
+  unless-alone : (a b : List Table) → q .front ≡ a → q .back ≡ b → All (Broken2 q (insert new)) (unlessAlone q a b (inserted q new))
+  unless-alone [] [] e g = tt
+  unless-alone [] (t ∷ ts) e g = against-empty (inr (none-join t ts (q .back) g))
+  unless-alone (t ∷ ts) us e g = against-empty (inl (none-join t ts (q .front) e))
 
-      -- no full row before; none after either where another table is empty
-      by1 : ((s : Values) → ¬ Joined (none (q .front)) s) ⊎ ((s : Values) → ¬ Joined (none (q .back)) s) → All Broken (inserted q new)
-      by1 f = all-map Broken (λ n. one (λ r. C q (put q n r))) new (λ n h m. (
-        λ v. (λ s. absurd (s .1 .here), λ s. absurd (s .1 .here)),
-        λ same. let s = same (part q (put q n (look (m .0)))) .0 (insert-listed n h (m .0) (m .1) (m .2)) in elim f [ inl g ↦ g (s .0 .before) (s .1 .before) | inr g ↦ g (s .0 .after) (s .1 .after) ],
-      ))
-
-      go : (a b : List Table) → q .front ≡ a → q .back ≡ b → All Broken (unlessAlone q a b (inserted q new))
-      go [] [] e g = tt
-      go [] (t ∷ ts) e g = by1 (inr (none-join t ts (q .back) g))
-      go (t ∷ ts) us e g = by1 (inl (none-join t ts (q .front) e))
+  pub insert-exact : Exact q (insert new)
+  insert-exact = record {
+    quiet = λ f. record { remain = λ u i c. inl tt; enter = λ u i m. absurd m; same = λ u i m. absurd m; fresh = barren f };
+    settled = λ f. record { enter = λ u i m. absurd m; together = λ u w p s. inl tt; both = λ u w p m. absurd m; mixed = λ u w p m. absurd m; fresh = fresh (q .front) (q .back) refl refl f };
+    broken1 = all-map (Broken1 q (insert new)) (λ n. one (λ r. C q (put q n r))) new (λ n h m same. same (part q (put q n (look (m .0)))) .1 (insert-listed n h (m .0) (m .1) (m .2)) .1 .here);
+    broken2 = unless-alone (q .front) (q .back) refl refl;
+  }

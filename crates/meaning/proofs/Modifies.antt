@@ -1,4 +1,4 @@
--- Modify: yes from formulas that fail, no from rows that meet one.
+-- Modify: its formulas are exact.
 use Prim.Native.Nat.{ℕ}
 use mathlib.Core.Path.{_≡_, refl}
 use mathlib.Core.Logic.{inl, inr, _≢_}
@@ -8,14 +8,14 @@ use lib.Dec.{T, T-not}
 use Rattle.meaning.specs.Condition.{Condition, Row}
 use Rattle.meaning.specs.Contents.{Question, modify, Mode, Values, look, part, Shows, Same}
 use Rattle.meaning.specs.WellFormed.{ChangeOk}
-use Rattle.meaning.specs.Trouble.{C, S, All, Met, AllFail, moved, moves, differ, kept, modeAt, irrelevance, computability}
-use Rattle.meaning.specs.Witness.{witness, firstOf, secondOf}
+use Rattle.meaning.specs.Trouble.{C, S, moved, moves, differ, kept, modeAt}
+use Rattle.meaning.specs.Witness.{witness}
 use Rattle.meaning.proofs.Truth.{and-in, or-cases, or-l, or-r, parts, test}
 use Rattle.meaning.proofs.Moving.{kept-same, differ-yes, differ-no}
 use Rattle.meaning.proofs.Fates.{Fate, Then, Seen, vanishes, appears, alters, both-show, one-left, two-moved, one-moved}
 use Rattle.meaning.proofs.After.{fateOf}
-use Rattle.meaning.proofs.Quiet.{InRange, Quiet, Settled}
-use Rattle.meaning.proofs.Breaks.{Breaks1, Breaks2, breaks1, breaks2, breaks2-empty}
+use Rattle.meaning.proofs.Quiet.{InRange}
+use Rattle.meaning.proofs.Breaks.{Breaks1, Breaks2, Exact, breaks1, breaks2, breaks2-empty}
 
 -- ---- visible parts, by the columns not kept
 
@@ -44,31 +44,6 @@ module _ (q : Question) (d : Condition) (ms : List Mode) where
   seen r (inl n) = or-l (not (moves q d ms r)) (C q (moved q ms r)) n
   seen r (inr m) = or-r (not (moves q d ms r)) (C q (moved q ms r)) (m .1)
 
-  pub modify-quiet : AllFail q (irrelevance q (modify d ms)) → Quiet q (modify d ms)
-  modify-quiet f = record {
-    remain = λ u i c. elim (test (moves q d ms (look u))) [
-      | inl m ↦ elim (test (C q (moved q ms (look u)))) [ inl n ↦ inr (m, n) | inr n ↦ absurd (f .0 (u, i, search and-in)) ]
-      | inr n ↦ inl n
-    ];
-    enter = λ u i m n. elim (test (C q (look u))) [ inl c ↦ c | inr c ↦ absurd (f .1 .0 (u, i, search and-in)) ];
-    same = λ u i m c n. part-same q ms (moved q ms (look u)) (look u) (look u) (look u) (λ j t. (kept-moved q ms (look u) j t, refl)) refl (λ t. f .1 .1 .0 (u, i, search and-in));
-    fresh = λ c o v t. t .1 .here;
-  }
-
-  pub modify-settled : AllFail q (computability q (modify d ms)) → Settled q (modify d ms)
-  modify-settled f = record {
-    enter = λ u i m n. elim (test (C q (look u))) [ inl c ↦ c | inr c ↦ absurd (f .0 (u, i, search and-in)) ];
-    together = λ u w p s. let c = p .shown .0 in let b = p .shown .1 in let t = seen (look u) s in
-        elim (test (S q d ms (look w))) [ inl t ↦ still (look w) t | inr n ↦ absurd (f .1 .0 (u, w, p .first, p .second, p .part, search and-in)) ];
-    both = λ u w p m n g h. let c = p .shown .0 in let b = p .shown .1 in
-        part-same q ms (moved q ms (look u)) (moved q ms (look w)) (look u) (look w) (λ i t. (kept-moved q ms (look u) i t, kept-moved q ms (look w) i t)) (p .part)
-        (λ t. f .1 .1 .0 (u, w, p .first, p .second, p .part, search and-in depth 9));
-    mixed = λ u w p m n g. let c = p .shown .0 in let b = p .shown .1 in
-        part-same q ms (moved q ms (look u)) (look w) (look u) (look w) (λ i t. (kept-moved q ms (look u) i t, refl)) (p .part)
-        (λ t. f .1 .1 .1 .0 (u, w, p .first, p .second, p .part, search and-in depth 9));
-    fresh = λ c e o p v t. absurd (t .1 .here);
-  }
-
   -- a listed row that moves out of the list
   moved-out : (r : Row) → T (moves q d ms r) → T (not (C q (moved q ms r))) → ¬ Seen q k r
   moved-out r m n s = elim s [ inl t ↦ T-not (moves q d ms r) t m | inr t ↦ T-not (C q (moved q ms r)) n (t .1) ]
@@ -81,29 +56,50 @@ module _ (q : Question) (d : Condition) (ms : List Mode) where
         → ¬ Same (Then q k (look u)) (Then q k (look w)) → Breaks2 q (modify d ms) (witness q (modify d ms) u) (witness q (modify d ms) w)
     break2 u w h i e c b = breaks2 q (modify d ms) ok (λ r i. i) u w h i (both-show q k (look u) (look w) c b e)
 
-    pub modify-no1 : All (λ φ. (m : Met q φ) → Breaks1 q (modify d ms) (firstOf q (modify d ms) φ m)) (irrelevance q (modify d ms))
-    modify-no1 = (
-      λ m. break1 (m .0) (m .1) (vanishes q k (look (m .0)) (search parts) (moved-out (look (m .0)) (search parts) (search parts))),
-      (
-        λ m. break1 (m .0) (m .1) (appears q k (look (m .0)) (search parts) (T-not (C q (look (m .0))) (search parts)) (search parts)),
+    pub modify-exact : Exact q (modify d ms)
+    modify-exact = record {
+      quiet = λ f. record {
+        remain = λ u i c. elim (test (moves q d ms (look u))) [
+          | inl m ↦ elim (test (C q (moved q ms (look u)))) [ inl n ↦ inr (m, n) | inr n ↦ absurd (f .0 (u, i, search and-in)) ]
+          | inr n ↦ inl n
+        ];
+        enter = λ u i m n. elim (test (C q (look u))) [ inl c ↦ c | inr c ↦ absurd (f .1 .0 (u, i, search and-in)) ];
+        same = λ u i m c n. part-same q ms (moved q ms (look u)) (look u) (look u) (look u) (λ j t. (kept-moved q ms (look u) j t, refl)) refl (λ t. f .1 .1 .0 (u, i, search and-in));
+        fresh = λ c o v t. t .1 .here;
+      };
+      settled = λ f. record {
+        enter = λ u i m n. elim (test (C q (look u))) [ inl c ↦ c | inr c ↦ absurd (f .0 (u, i, search and-in)) ];
+        together = λ u w p s. let c = p .shown .0 in let b = p .shown .1 in let t = seen (look u) s in
+            elim (test (S q d ms (look w))) [ inl t ↦ still (look w) t | inr n ↦ absurd (f .1 .0 (u, w, p .first, p .second, p .part, search and-in)) ];
+        both = λ u w p m n g h. let c = p .shown .0 in let b = p .shown .1 in
+            part-same q ms (moved q ms (look u)) (moved q ms (look w)) (look u) (look w) (λ i t. (kept-moved q ms (look u) i t, kept-moved q ms (look w) i t)) (p .part)
+            (λ t. f .1 .1 .0 (u, w, p .first, p .second, p .part, search and-in depth 9));
+        mixed = λ u w p m n g. let c = p .shown .0 in let b = p .shown .1 in
+            part-same q ms (moved q ms (look u)) (look w) (look u) (look w) (λ i t. (kept-moved q ms (look u) i t, refl)) (p .part)
+            (λ t. f .1 .1 .1 .0 (u, w, p .first, p .second, p .part, search and-in depth 9));
+        fresh = λ c e o p v t. absurd (t .1 .here);
+      };
+      broken1 = (
+        λ m. break1 (m .0) (m .1) (vanishes q k (look (m .0)) (search parts) (moved-out (look (m .0)) (search parts) (search parts))),
         (
-          λ m. break1 (m .0) (m .1) (alters q k (look (m .0)) (search parts) (search parts) (part-apart q ms (moved q ms (look (m .0))) (look (m .0)) (search parts))),
-          tt,
+          λ m. break1 (m .0) (m .1) (appears q k (look (m .0)) (search parts) (T-not (C q (look (m .0))) (search parts)) (search parts)),
+          (λ m. break1 (m .0) (m .1) (alters q k (look (m .0)) (search parts) (search parts) (part-apart q ms (moved q ms (look (m .0))) (look (m .0)) (search parts))), tt),
         ),
-      ),
-    )
-
-    pub modify-no2 : All (λ φ. (m : Met q φ) → Breaks2 q (modify d ms) (firstOf q (modify d ms) φ m) (secondOf q (modify d ms) φ m)) (computability q (modify d ms))
-    modify-no2 = (
-      λ m. breaks2-empty q (modify d ms) ok (λ r i. i) (m .0) (m .1) (T-not (C q (look (m .0))) (search parts)) (part q (moved q ms (look (m .0)))) (inr (search parts, (search parts, refl))),
-      (
-        λ m. break2 (m .0) (m .1) (m .2) (m .3) (m .4) (search parts) (search parts) (one-left q k (look (m .0)) (look (m .1)) (search parts) (still (look (m .0)) (search parts)) (λ s. T-not (S q d ms (look (m .1))) (search parts) (seen (look (m .1)) s))),
+      );
+      broken2 = (
+        λ m. breaks2-empty q (modify d ms) ok (λ r i. i) (m .0) (m .1) (T-not (C q (look (m .0))) (search parts)) (part q (moved q ms (look (m .0)))) (inr (search parts, (search parts, refl))),
         (
-          λ m. break2 (m .0) (m .1) (m .2) (m .3) (m .4) (search parts depth 9) (search parts depth 9) (two-moved q k (look (m .0)) (look (m .1)) (search parts depth 9) (search parts depth 9) (search parts) (part-apart q ms (moved q ms (look (m .0))) (moved q ms (look (m .1))) (search parts))),
+          λ m. break2 (m .0) (m .1) (m .2) (m .3) (m .4) (search parts) (search parts)
+              (one-left q k (look (m .0)) (look (m .1)) (search parts) (still (look (m .0)) (search parts)) (λ s. T-not (S q d ms (look (m .1))) (search parts) (seen (look (m .1)) s))),
           (
-            λ m. break2 (m .0) (m .1) (m .2) (m .3) (m .4) (search parts depth 9) (search parts depth 9) (one-moved q k (look (m .0)) (look (m .1)) (search parts depth 9) (search parts depth 9) (search parts) (part-apart q ms (moved q ms (look (m .0))) (look (m .1)) (search parts))),
-            tt,
+            λ m. break2 (m .0) (m .1) (m .2) (m .3) (m .4) (search parts depth 9) (search parts depth 9)
+                (two-moved q k (look (m .0)) (look (m .1)) (search parts depth 9) (search parts depth 9) (search parts) (part-apart q ms (moved q ms (look (m .0))) (moved q ms (look (m .1))) (search parts))),
+            (
+              λ m. break2 (m .0) (m .1) (m .2) (m .3) (m .4) (search parts depth 9) (search parts depth 9)
+                  (one-moved q k (look (m .0)) (look (m .1)) (search parts depth 9) (search parts depth 9) (search parts) (part-apart q ms (moved q ms (look (m .0))) (look (m .1)) (search parts))),
+              tt,
+            ),
           ),
         ),
-      ),
-    )
+      );
+    }
