@@ -18,7 +18,7 @@ use Rattle.formula.specs.Parts.{_and_, conditionProgram}
 use Rattle.formula.specs.Formulas.{Formula, firstSight, secondSight, after, oneRow, twoRows, boundedAll, differs, differsOver, C, moves, S, inserted, entering, irrelevance, computability, unlessAlone, formulas}
 use Rattle.formula.proofs.Compiles.{run-append, Sees}
 use Rattle.formula.proofs.Pieces.{Pushes, pushes-truth, pushes-and, pushes-or, pushes-not, pushes-condition}
-use Rattle.formula.proofs.Usable.{Exists, ChangeUsable, Usable}
+use Rattle.formula.proofs.Usable.{Exists, ChangeUsable, Usable, reads-become}
 use Rattle.formula.proofs.Sights.{after-sees, boundedAll-is, differsOver-is}
 
 -- the program's truth is the test's, on the rows that ρ shows
@@ -80,13 +80,9 @@ module _ (q : Question) (k : Usable q) where
   double : {f : Row → Row → Bool} {p : Program} → ((ρ : Values) → ρ 0 ≡ pos 0 → (r s : Row) → Sees (Exists q) ρ firstSight r → Sees (Exists q) ρ (secondSight q) s → Pushes ρ p (f r s)) → Double q f (twoRows q p)
   double h = record { is = refl; means = λ ρ z r s o p. pushes-truth ρ (h ρ z r s o p) }
 
-  reads-become : (n : M.Values) → Reads (Exists q) (map become n)
-  reads-become [] = tt
-  reads-become (x ∷ n) = reads-become n
-
   inserted-agree : (new : List M.Values) → AgreeAll q (trouble.inserted q new) (inserted q new)
   inserted-agree [] = tt
-  inserted-agree (n ∷ new) = (single (λ ρ z r o. CF-is q k ρ z firstSight r o (map become n) (reads-become n)), inserted-agree new)
+  inserted-agree (n ∷ new) = (single (λ ρ z r o. CF-is q k ρ z firstSight r o (map become n) (reads-become (Exists q) n)), inserted-agree new)
 
   unless-agree : (ts us : List Table) (φs : List trouble.Formula) (Fs : List Formula) → AgreeAll q φs Fs → AgreeAll q (trouble.unlessAlone q ts us φs) (unlessAlone q ts us Fs)
   unless-agree [] [] φs Fs a = tt

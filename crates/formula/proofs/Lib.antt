@@ -7,3 +7,7 @@ pub mod Agreement
 pub mod Runs
 pub mod Rows
 pub mod Stands
+pub mod Inserts
+pub mod Sizes
+pub mod Present
+pub mod Proper

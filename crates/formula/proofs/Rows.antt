@@ -73,7 +73,7 @@ module _ {A : Type 0} where
   getD-after (x ∷ a) b d zero i e = absurd (omega arith)
   getD-after (x ∷ a) b d (suc n) i e = let z : suc n + i ≡ suc (n + i) = omega arith in rw z (getD-after a b d n i (omega arith))
 
-hidden-at : (vs : List ℕ) (k : ℕ) (gs : List Range) (i : ℕ) → getD (hiddenRanges vs k gs) i none ≡ cond (among vs (k + i)) none (getD (map some gs) i none)
+pub hidden-at : (vs : List ℕ) (k : ℕ) (gs : List Range) (i : ℕ) → getD (hiddenRanges vs k gs) i none ≡ cond (among vs (k + i)) none (getD (map some gs) i none)
 unfolding hiddenRanges
 hidden-at vs k [] i = either-way (among vs (k + i)) none
   where
@@ -90,7 +90,7 @@ value-vertex ρ v = omega (ints, +law (ρ v) (pos 0))
 
 module _ (q : Question) where
   -- the ranges of both rows, as one list
-  abbrev bothRanges : Ranges
+  abbrev pub bothRanges : Ranges
   bothRanges = firstRanges (columns q) ++ hiddenRanges (q .visible) 0 (columns q)
 
   hidden-in : (gs : List Range) (w : M.Values) → T (fits gs w) → (vs : List ℕ) (i : ℕ) → Ranged (getD (hiddenRanges vs 0 gs) i none) (look w i)

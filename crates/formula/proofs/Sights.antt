@@ -3,7 +3,6 @@ use Prim.Native.Nat.{ℕ, zero, suc}
 use mathlib.Core.Path.{_≡_, refl, sym, ap, ap₂, _∙_}
 use mathlib.Core.Bool.{Bool, true, false, not, _&&_, _||_, cond, and-true, or-false, and-assoc, or-assoc}
 use mathlib.Core.List.{List, [], _∷_, _++_}
-use lib.ListN.{getD, replicate}
 use lib.IntN.{ℤ, pos, _+ℤ_}
 use lib.Signed.{leZ}
 use Rattle.meaning.specs.Condition.{Row, holds, unequal, atMost, atLeast}
@@ -15,6 +14,7 @@ use Rattle.formula.specs.Program.{Values, Term, value, Program, andI, or
 use Rattle.formula.specs.Compile.{Sight, comparison, constantTerm, plus}
 use Rattle.formula.specs.Formulas.{newTerm, after, bounded, boundedAll, differsOver}
 use Rattle.formula.proofs.Compiles.{run-append, comparison-is, constant-is, plus-is, Sees}
+use Rattle.formula.proofs.Usable.{reads-at}
 
 module _ (P : ℕ → Type 0) (ρ : Values) (z : ρ 0 ≡ pos 0) where
   module _ (σ : Sight) (r : Row) (sees : Sees P ρ σ r) where
@@ -24,20 +24,9 @@ module _ (P : ℕ → Type 0) (ρ : Values) (z : ρ 0 ≡ pos 0) where
     new-sees (become k) i p u = constant-is ρ z k
     new-sees (shift j k) i p u = plus-is ρ (σ j) k ∙ ap (λ x. x +ℤ k) (sees j (u .0))
 
-    reads-at : (n : ℕ) (ms : List Mode) → Reads P ms → (i : ℕ) → Reads P (getD (replicate n keep ++ ms) i keep ∷ [])
-    reads-at zero [] u i = tt
-    reads-at zero (keep ∷ ms) u zero = tt
-    reads-at zero (become k ∷ ms) u zero = tt
-    reads-at zero (shift j k ∷ ms) u zero = (u .0, tt)
-    reads-at zero (keep ∷ ms) u (suc i) = reads-at zero ms u i
-    reads-at zero (become k ∷ ms) u (suc i) = reads-at zero ms u i
-    reads-at zero (shift j k ∷ ms) u (suc i) = reads-at zero ms (u .1) i
-    reads-at (suc n) ms u zero = tt
-    reads-at (suc n) ms u (suc i) = reads-at n ms u i
-
     pub after-sees : (q : Question) (ms : List Mode) → Reads P ms → Sees P ρ (after q ms σ) (moved q ms r)
     unfolding after moved
-    after-sees q ms u i p = new-sees (modeAt q ms i) i p (reads-at (first q) ms u i)
+    after-sees q ms u i p = new-sees (modeAt q ms i) i p (reads-at P (first q) ms u i)
 
     -- a range test, joined to what stands before it
     bounded-is : (t : Term) (x : ℤ) → value ρ t ≡ x → (g : Range) (b : Bool) (st : List Bool) → run ρ (bounded t g) (b ∷ st) ≡ (b && inRange g x) ∷ st

@@ -1,10 +1,10 @@
 -- What the laws of formulas ask of a question: its columns exist and its conditions leave one truth. An accepted one is usable.
 use Prim.Native.Nat.{ℕ, zero, suc, _+_, _≤_, _<_}
-use mathlib.Core.List.{List, [], _∷_, _++_}
+use mathlib.Core.List.{List, [], _∷_, _++_, map}
 use native.Mathlib.Omega.{arith}
-use lib.ListN.{length, length-append}
+use lib.ListN.{length, getD, replicate, length-append}
 use Rattle.meaning.specs.Condition.{Condition, Token, compare, both, either, negate, Side, constant, column}
-use Rattle.meaning.specs.Contents.{Question, Change, insert, delete, modify, Mode, keep, become, shift, columns, columnsOf, first}
+use Rattle.meaning.specs.Contents.{Question, Change, insert, delete, modify, Mode, keep, become, shift, Values, columns, columnsOf, first}
 use Rattle.meaning.specs.WellFormed.{Mine, SideUses, TokenUses, Uses, Reads, ChangeOk}
 use Rattle.question.specs.Accepted.{Every, Shaped, ChangeAccepted, Ascending, Accepted}
 
@@ -59,3 +59,25 @@ usable q a = record { uses = a .exist; shaped = a .condition .shaped; visible = 
     go (insert new) w c = tt
     go (delete d) w c = (uses-weaken (Mine q) (Exists q) (mine-exists q) d w, c .shaped)
     go (modify d ms) w c = (uses-weaken (Mine q) (Exists q) (mine-exists q) d (w .0), c .0 .shaped, reads-weaken (Mine q) (Exists q) (mine-exists q) ms (w .1))
+
+-- ---- the mode of a column is one of the modes, or keep
+
+pub mode-at : (Q : Mode → Type 0) → Q keep → (n : ℕ) (ms : List Mode) → Every Q ms → (i : ℕ) → Q (getD (replicate n keep ++ ms) i keep)
+mode-at Q k zero [] e i = k
+mode-at Q k zero (m ∷ ms) e zero = e .0
+mode-at Q k zero (m ∷ ms) e (suc i) = mode-at Q k zero ms (e .1) i
+mode-at Q k (suc n) ms e zero = k
+mode-at Q k (suc n) ms e (suc i) = mode-at Q k n ms e i
+
+reads-every : (P : ℕ → Type 0) (ms : List Mode) → Reads P ms → Every (λ m. Reads P (m ∷ [])) ms
+reads-every P [] u = tt
+reads-every P (keep ∷ ms) u = (tt, reads-every P ms u)
+reads-every P (become k ∷ ms) u = (tt, reads-every P ms u)
+reads-every P (shift j k ∷ ms) u = ((u .0, tt), reads-every P ms (u .1))
+
+pub reads-at : (P : ℕ → Type 0) (n : ℕ) (ms : List Mode) → Reads P ms → (i : ℕ) → Reads P (getD (replicate n keep ++ ms) i keep ∷ [])
+reads-at P n ms u i = mode-at (λ m. Reads P (m ∷ [])) tt n ms (reads-every P ms u) i
+
+pub reads-become : (P : ℕ → Type 0) (n : Values) → Reads P (map become n)
+reads-become P [] = tt
+reads-become P (x ∷ n) = reads-become P n
