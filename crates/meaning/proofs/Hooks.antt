@@ -11,7 +11,7 @@ use lib.Dec.{T}
 use Rattle.meaning.specs.Condition.{Row}
 use Rattle.meaning.specs.Contents.{Question, Values, Range, look, columns, fits, inRange, part}
 use Rattle.meaning.specs.Trouble.{Formula, one, two, All, Met}
-use Rattle.meaning.proofs.Truth.{and-l, and-r}
+use Rattle.meaning.proofs.Truth.{parts}
 
 -- each column's value in its range
 abbrev pub RowFits : List Range → Row → Type 0
@@ -20,8 +20,8 @@ RowFits cs r = (i : ℕ) → i < length cs → T (inRange (getD cs i (record { l
 pub fits-row : (cs : List Range) (u : Values) → T (fits cs u) → RowFits cs (look u)
 fits-row [] u h i l = absurd (omega arith)
 fits-row (g ∷ cs) [] h i l = absurd h
-fits-row (g ∷ cs) (v ∷ u) h zero l = and-l (inRange g v) (fits cs u) h
-fits-row (g ∷ cs) (v ∷ u) h (suc i) l = fits-row cs u (and-r (inRange g v) (fits cs u) h) i (omega arith)
+fits-row (g ∷ cs) (v ∷ u) h zero l = search parts
+fits-row (g ∷ cs) (v ∷ u) h (suc i) l = fits-row cs u (search parts) i (omega arith)
 
 abbrev pub Has : ℕ → List ℕ → Type 0
 Has i [] = ⊥

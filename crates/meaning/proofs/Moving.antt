@@ -2,7 +2,7 @@
 use Prim.Native.Nat.{ℕ, zero, suc, _+_, _≤_, _<_}
 use native.Mathlib.Omega.{arith}
 use mathlib.Core.Path.{_≡_, refl, sym, ap, ap₂, _∙_, fun-ext}
-use mathlib.Core.Logic.{_⊎_, inl, inr, _≢_}
+use mathlib.Core.Logic.{inl, inr, _≢_}
 use mathlib.Core.Bool.{Bool, true, false, not, _&&_}
 use mathlib.Core.List.{List, [], _∷_, _++_, map, head-eq-of-cons-eq, tail-eq-of-cons-eq}
 use lib.ListN.{length, getD, replicate, length-map, List·getD-append}
@@ -12,7 +12,7 @@ use Rattle.meaning.specs.Condition.{Condition, Row, Token, compare, both
 use Rattle.meaning.specs.Contents.{Question, Mode, keep, become, shift, Values, Table, Range, look, first, fits, inRange, newValue, newValues, newRow, place, Full, row}
 use Rattle.meaning.specs.WellFormed.{Mine, SideUses, TokenUses, Uses, Reads}
 use Rattle.meaning.specs.Trouble.{moved, kept, newFits, differOver, put}
-use Rattle.meaning.proofs.Truth.{and-l, and-r, or-cases, or-l, or-r, and-in, test, not-unequal, unequal-not}
+use Rattle.meaning.proofs.Truth.{and-in, or-cases, or-l, or-r, parts, test, not-unequal, unequal-not}
 
 -- ---- a condition sees the columns that it names
 
@@ -33,11 +33,11 @@ module _ (P : ℕ → Type 0) (r s : Row) (same : (i : ℕ) → P i → r i ≡ 
   run-agree [] st u = refl
   run-agree (t ∷ c) st u = run-agree c (step r t st) (u .1) ∙ ap (run s c) (step-agree t st (u .0))
 
-  pub meets-agree : (c : Condition) → Uses P c → meets c r ≡ meets c s
+  meets-agree : (c : Condition) → Uses P c → meets c r ≡ meets c s
   unfolding meets
   meets-agree c u = ap top (run-agree c [] u)
 
-  pub new-agree : (ms : List Mode) (vs : Values) → Reads P ms → newValues ms vs r ≡ newValues ms vs s
+  new-agree : (ms : List Mode) (vs : Values) → Reads P ms → newValues ms vs r ≡ newValues ms vs s
   new-agree [] vs u = refl
   new-agree (m ∷ ms) [] u = refl
   new-agree (keep ∷ ms) (v ∷ vs) u = ap (λ l. v ∷ l) (new-agree ms vs u)
@@ -45,13 +45,13 @@ module _ (P : ℕ → Type 0) (r s : Row) (same : (i : ℕ) → P i → r i ≡ 
   new-agree (shift j k ∷ ms) (v ∷ vs) u = ap₂ (λ a l. (a +ℤ k) ∷ l) (same j (u .0)) (new-agree ms vs (u .1))
 
 -- a stored row reads the same at its place and in a full row
-pub at-place : (f r b : Values) (i : ℕ) → length f ≤ i → i < length f + length r → look (replicate (length f) (pos 0) ++ r) i ≡ look (f ++ (r ++ b)) i
+at-place : (f r b : Values) (i : ℕ) → length f ≤ i → i < length f + length r → look (replicate (length f) (pos 0) ++ r) i ≡ look (f ++ (r ++ b)) i
 at-place [] r b i h k = sym (List·getD-append r b (pos 0) i (omega arith))
 at-place (x ∷ f) r b zero h k = absurd (omega arith)
 at-place (x ∷ f) r b (suc i) h k = at-place f r b i (omega arith) (omega arith)
 
 -- new values in a full row, column by column
-pub moved-at : (f r b : Values) (ms : List Mode) (s : Row) → length ms ≡ length r → (i : ℕ)
+moved-at : (f r b : Values) (ms : List Mode) (s : Row) → length ms ≡ length r → (i : ℕ)
     → look (f ++ (newValues ms r s ++ b)) i ≡ newValue (getD (replicate (length f) keep ++ ms) i keep) s (look (f ++ (r ++ b)) i)
 moved-at (x ∷ f) r b ms s e zero = refl
 moved-at (x ∷ f) r b ms s e (suc i) = moved-at f r b ms s e i
@@ -66,36 +66,35 @@ absorb : (a : Bool) {b c : Bool} → T a → b ≡ c → a && b ≡ c
 absorb true t e = e
 absorb false t e = absurd t
 
-pub fits-new : (t : Table) (ms : List Mode) (r : Values) (s : Row) → T (fits t r) → fits t (newValues ms r s) ≡ newFits t ms s
+fits-new : (t : Table) (ms : List Mode) (r : Values) (s : Row) → T (fits t r) → fits t (newValues ms r s) ≡ newFits t ms s
 unfolding newFits
 fits-new [] [] [] s h = refl
 fits-new [] (m ∷ ms) [] s h = refl
 fits-new [] ms (v ∷ r) s h = absurd h
 fits-new (g ∷ t) ms [] s h = absurd h
-fits-new (g ∷ t) [] (v ∷ r) s h = absorb (inRange g v) (and-l (inRange g v) (fits t r) h) (fits-new t [] r s (and-r (inRange g v) (fits t r) h))
-fits-new (g ∷ t) (keep ∷ ms) (v ∷ r) s h = absorb (inRange g v) (and-l (inRange g v) (fits t r) h) (fits-new t ms r s (and-r (inRange g v) (fits t r) h))
-fits-new (g ∷ t) (become k ∷ ms) (v ∷ r) s h = ap (λ b. inRange g k && b) (fits-new t ms r s (and-r (inRange g v) (fits t r) h))
-fits-new (g ∷ t) (shift j k ∷ ms) (v ∷ r) s h = ap (λ b. inRange g (s j +ℤ k) && b) (fits-new t ms r s (and-r (inRange g v) (fits t r) h))
+fits-new (g ∷ t) [] (v ∷ r) s h = absorb (inRange g v) (search parts) (fits-new t [] r s (search parts))
+fits-new (g ∷ t) (keep ∷ ms) (v ∷ r) s h = absorb (inRange g v) (search parts) (fits-new t ms r s (search parts))
+fits-new (g ∷ t) (become k ∷ ms) (v ∷ r) s h = ap (λ b. inRange g k && b) (fits-new t ms r s (search parts))
+fits-new (g ∷ t) (shift j k ∷ ms) (v ∷ r) s h = ap (λ b. inRange g (s j +ℤ k) && b) (fits-new t ms r s (search parts))
 
 -- ---- visible parts differ exactly where a visible column not kept does
 
 module _ (mode : ℕ → Mode) (a b : Row) where
+  -- one column's test
+  abbrev apart : ℕ → Bool
+  apart i = not (kept (mode i)) && holds unequal (a i) (b i)
+
   pub differ-yes : (is : List ℕ) → T (differOver mode is a b) → map a is ≢ map b is
   differ-yes [] t e = t
-  differ-yes (i ∷ is) t e = go (or-cases (not (kept (mode i)) && holds unequal (a i) (b i)) (differOver mode is a b) t) (λ u. differ-yes is u (tail-eq-of-cons-eq e))
-    where
-      go : T (not (kept (mode i)) && holds unequal (a i) (b i)) ⊎ T (differOver mode is a b) → (T (differOver mode is a b) → ⊥) → ⊥
-      go (inl u) f = unequal-not (a i) (b i) (and-r (not (kept (mode i))) (holds unequal (a i) (b i)) u) (head-eq-of-cons-eq e)
-      go (inr u) f = f u
+  differ-yes (i ∷ is) t e = elim (or-cases (apart i) (differOver mode is a b) t) [ inl u ↦ unequal-not (a i) (b i) (search parts) (head-eq-of-cons-eq e) | inr u ↦ differ-yes is u (tail-eq-of-cons-eq e) ]
 
-  pub differ-no : (u w : Row) → ((i : ℕ) → T (kept (mode i)) → (a i ≡ u i) × (b i ≡ w i)) → (is : List ℕ) → map u is ≡ map w is → (T (differOver mode is a b) → ⊥) → map a is ≡ map b is
+  -- kept columns are as in u and w, which have the same visible part
+  pub differ-no : (u w : Row) → ((i : ℕ) → T (kept (mode i)) → (a i ≡ u i) × (b i ≡ w i)) → (is : List ℕ) → map u is ≡ map w is → ¬ T (differOver mode is a b) → map a is ≡ map b is
   differ-no u w k [] e f = refl
   differ-no u w k (i ∷ is) e f =
-      ap₂ (λ x l. x ∷ l) (go (test (kept (mode i)))) (differ-no u w k is (tail-eq-of-cons-eq e) (λ t. f (or-r (not (kept (mode i)) && holds unequal (a i) (b i)) (differOver mode is a b) t)))
-    where
-      go : T (kept (mode i)) ⊎ T (not (kept (mode i))) → a i ≡ b i
-      go (inl t) = k i t .0 ∙ head-eq-of-cons-eq e ∙ sym (k i t .1)
-      go (inr t) = not-unequal (a i) (b i) (λ x. f (or-l (not (kept (mode i)) && holds unequal (a i) (b i)) (differOver mode is a b) (and-in (not (kept (mode i))) (holds unequal (a i) (b i)) t x)))
+      ap₂ (λ x l. x ∷ l)
+      (elim (test (kept (mode i))) [ inl t ↦ k i t .0 ∙ head-eq-of-cons-eq e ∙ sym (k i t .1) | inr t ↦ not-unequal (a i) (b i) (λ x. f (or-l (apart i) (differOver mode is a b) (search and-in))) ])
+      (differ-no u w k is (tail-eq-of-cons-eq e) (λ t. f (or-r (apart i) (differOver mode is a b) t)))
 
 pub kept-same : (m : Mode) (r : Row) (v : ℤ) → T (kept m) → newValue m r v ≡ v
 kept-same keep r v t = refl
@@ -116,7 +115,7 @@ pub fits-length : (t : List Range) (r : Values) → T (fits t r) → length r �
 fits-length [] [] h = refl
 fits-length [] (v ∷ r) h = absurd h
 fits-length (g ∷ t) [] h = absurd h
-fits-length (g ∷ t) (v ∷ r) h = ap suc (fits-length t r (and-r (inRange g v) (fits t r) h))
+fits-length (g ∷ t) (v ∷ r) h = ap suc (fits-length t r (search parts))
 
 module _ (q : Question) (x : Full) (w : Wide q x) where
   -- what stands in a column of the changed table

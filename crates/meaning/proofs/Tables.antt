@@ -7,7 +7,7 @@ use lib.ListN.{length, take, drop, take-append-drop}
 use lib.Dec.{T}
 use Rattle.meaning.specs.Contents.{Question, Values, Table, Range, _∈_, each, columnsOf, columns, fits, inRange, first, Contents, TablesFit, Valid, Joined, Full, values, Within}
 use Rattle.meaning.specs.Witness.{cut, alone, none, AtMostOne}
-use Rattle.meaning.proofs.Truth.{and-l, and-r, and-in}
+use Rattle.meaning.proofs.Truth.{and-in, parts}
 use Rattle.meaning.proofs.Moving.{Wide, fits-length}
 
 -- ---- membership
@@ -48,7 +48,7 @@ pub fits-append : (t u : List Range) (r s : Values) → T (fits t r) → T (fits
 fits-append [] u [] s h k = k
 fits-append [] u (v ∷ r) s h k = absurd h
 fits-append (g ∷ t) u [] s h k = absurd h
-fits-append (g ∷ t) u (v ∷ r) s h k = and-in (inRange g v) (fits (t ++ u) (r ++ s)) (and-l (inRange g v) (fits t r) h) (fits-append t u r s (and-r (inRange g v) (fits t r) h) k)
+fits-append (g ∷ t) u (v ∷ r) s h k = and-in (inRange g v) (fits (t ++ u) (r ++ s)) (search parts) (fits-append t u r s (search parts) k)
 
 pub joined-fits : (ts : List Table) (rss : List (List Values)) → TablesFit ts rss → (s : Values) → Joined rss s → T (fits (columnsOf ts) s)
 joined-fits [] [] f s j = rw j tt
@@ -69,12 +69,12 @@ within-wide q c v x w = record { before = fits-length (columnsOf (q .front)) (x 
 pub fits-take : (t u : List Range) (s : Values) → T (fits (t ++ u) s) → T (fits t (take (length t) s))
 fits-take [] u s h = tt
 fits-take (g ∷ t) u [] h = absurd h
-fits-take (g ∷ t) u (v ∷ s) h = and-in (inRange g v) (fits t (take (length t) s)) (and-l (inRange g v) (fits (t ++ u) s) h) (fits-take t u s (and-r (inRange g v) (fits (t ++ u) s) h))
+fits-take (g ∷ t) u (v ∷ s) h = and-in (inRange g v) (fits t (take (length t) s)) (search parts) (fits-take t u s (search parts))
 
 pub fits-drop : (t u : List Range) (s : Values) → T (fits (t ++ u) s) → T (fits u (drop (length t) s))
 fits-drop [] u s h = h
 fits-drop (g ∷ t) u [] h = absurd h
-fits-drop (g ∷ t) u (v ∷ s) h = fits-drop t u s (and-r (inRange g v) (fits (t ++ u) s) h)
+fits-drop (g ∷ t) u (v ∷ s) h = fits-drop t u s (search parts)
 
 pub cut-values : (q : Question) (u : Values) → values (cut q u) ≡ u
 unfolding cut

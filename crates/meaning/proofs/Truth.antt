@@ -1,12 +1,12 @@
 -- Tests as facts.
-use mathlib.Core.Path.{_≡_, sym, subst}
+use mathlib.Core.Path.{_≡_}
 use mathlib.Core.Logic.{_⊎_, inl, inr, _≢_}
 use mathlib.Core.Bool.{Bool, true, false, not, _&&_, _||_}
 use lib.IntN.{ℤ}
-use lib.Signed.{leZ, ≤ℤ-refl}
-use lib.Dec.{T}
+use lib.Signed.{leZ}
+use lib.Dec.{T, T-not}
 use native.Mathlib.Omega.{arith}
-use Rattle.ints.proofs.Bridge.{from-leZ, eq-in}
+use Rattle.ints.proofs.Bridge.{from-leZ, to-leZ, eq-in, eq-out}
 use Rattle.meaning.specs.Condition.{holds, unequal}
 
 pub and-l : (a b : Bool) → T (a && b) → T a
@@ -37,23 +37,13 @@ pub test : (b : Bool) → T b ⊎ T (not b)
 test true = inl tt
 test false = inr tt
 
--- the test of two numbers
-anti : (a b : ℤ) → T (leZ a b) → T (leZ b a) → a ≡ b
-anti a b s t = eq-in a b (omega (arith, from-leZ a b s, from-leZ b a t))
-
-pub not-unequal : (a b : ℤ) → (T (holds unequal a b) → ⊥) → a ≡ b
-not-unequal a b f = go (test (leZ a b && leZ b a))
-  where
-    go : T (leZ a b && leZ b a) ⊎ T (not (leZ a b && leZ b a)) → a ≡ b
-    go (inl t) = anti a b (and-l (leZ a b) (leZ b a) t) (and-r (leZ a b) (leZ b a) t)
-    go (inr t) = absurd (f t)
-
-pub unequal-not : (a b : ℤ) → T (holds unequal a b) → a ≢ b
-unequal-not a b t e = never (leZ a a) (≤ℤ-refl a .le) (subst (λ x. T (holds unequal a x)) (sym e) t)
-  where
-    never : (c : Bool) → T c → T (not (c && c)) → ⊥
-    never true s t = t
-    never false s t = s
-
 -- what a conjunction says, part by part
 pub ruleset parts = (and-l, and-r)
+
+-- ---- the test of two numbers
+
+pub not-unequal : (a b : ℤ) → ¬ T (holds unequal a b) → a ≡ b
+not-unequal a b f = elim (test (leZ a b && leZ b a)) [ inl t ↦ eq-in a b (omega (arith, from-leZ a b (search parts), from-leZ b a (search parts))) | inr t ↦ absurd (f t) ]
+
+pub unequal-not : (a b : ℤ) → T (holds unequal a b) → a ≢ b
+unequal-not a b t e = T-not (leZ a b && leZ b a) t (and-in (leZ a b) (leZ b a) (to-leZ a b (omega (arith, eq-out e))) (to-leZ b a (omega (arith, eq-out e))))
