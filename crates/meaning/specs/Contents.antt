@@ -130,6 +130,7 @@ pub record Full : Type 0 where
 abbrev pub values : Full → Values
 values x = x .before ++ (x .here ++ x .after)
 
+-- as a row
 abbrev pub row : Full → Row
 row x = look (values x)
 
@@ -163,6 +164,7 @@ newValue keep r old = old
 newValue (become k) r old = k
 newValue (shift j k) r old = r j +ℤ k
 
+-- a mode for each column of the table
 abbrev pub newValues : List Mode → Values → Row → Values
 newValues [] vs r = vs
 newValues (m ∷ ms) [] r = []
@@ -189,6 +191,7 @@ added (modify d ms) = []
 abbrev pub afterBy : Question → Change → Contents → Contents
 afterBy q ch c = record { front = c .front; changed = each (left q ch) (c .changed) ++ added ch; back = c .back }
 
+-- the contents after the question's change
 abbrev pub afterChange : Question → Contents → Contents
 afterChange q c = afterBy q (q .change) c
 
@@ -210,6 +213,7 @@ Alike q c d = Same (Listed q c) (Listed q d) → Same (Listed q (afterChange q c
 abbrev pub Family : Type 1
 Family = Contents → Type 0
 
+-- the two verdicts, over the contents of a family
 abbrev pub IrrelevantIn : Family → Question → Type 0
 IrrelevantIn W q = (c : Contents) → W c → Unchanged q c
 

@@ -29,6 +29,7 @@ modeAt q ms i = getD (replicate (first q) keep ++ ms) i keep
 unfoldable pub moved : Question → List Mode → Row → Row
 moved q ms r i = newValue (modeAt q ms i) r (r i)
 
+-- "mode (0 keep, ..)": the value stays
 abbrev pub kept : Mode → Bool
 kept keep = true
 kept (become k) = false
@@ -47,6 +48,7 @@ abbrev pub differOver : (ℕ → Mode) → List ℕ → Row → Row → Bool
 differOver mode [] a b = false
 differOver mode (i ∷ is) a b = (not (kept (mode i)) && holds unequal (a i) (b i)) || differOver mode is a b
 
+-- "Shown change", and "some visible new1 ≠ new2", "some visible new1 ≠ old2"
 unfoldable pub differ : Question → List Mode → Row → Row → Bool
 differ q ms a b = differOver (modeAt q ms) (q .visible) a b
 
@@ -57,6 +59,7 @@ module _ (q : Question) where
   abbrev pub put : Values → Row → Row
   put new r = moved q (map become new) r
 
+  -- "the list's condition C"
   abbrev pub C : Row → Bool
   C r = meets (q .condition) r
 
