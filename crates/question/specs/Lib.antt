@@ -1,4 +1,5 @@
 pub mod Layout
 pub mod Reader
 pub mod Held
+pub mod Pieces
 pub mod Accepted

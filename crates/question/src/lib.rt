@@ -1,2 +1,3 @@
 // Questions: the declared types, and the reader that gives every byte string its answer.
+pub mod fields;
 pub mod types;
