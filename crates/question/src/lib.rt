@@ -1,3 +1,4 @@
 // Questions: the declared types, and the reader that gives every byte string its answer.
+pub mod condition;
 pub mod fields;
 pub mod types;
