@@ -1,2 +1,4 @@
 pub mod FieldLaws
 pub mod Steps
+pub mod Loops
+pub mod TokenRun

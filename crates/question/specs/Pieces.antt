@@ -1,20 +1,28 @@
 -- What the reader's inner results mean: each as the outcome of the fields that it read. And the inner suffixes of a piece.
 use Prim.Native.Nat.{ℕ}
-use mathlib.Core.List.{List}
+use mathlib.Core.Bool.{cond}
+use mathlib.Core.Path.{_≡_}
+use mathlib.Core.List.{List, map}
+use lib.ListN.{take}
+use lib.Dec.{ltb, leb, eqb}
 use lib.IntN.{ℤ}
 use Rattle.meaning.specs.Condition as C
-use Rattle.question.specs.Reader.{Outcome, bad, At, found, andThen, rightAt, constantAt, sideOf}
-use Rattle.question.specs.Held.{kindOf}
+use Rattle.question.specs.Reader.{Outcome, bad, At, found, andThen, byte, upTo, rightAt, constantAt, sideOf, comparisonAt, height}
+use Rattle.meaning.specs.Limits.{mostComparisons}
+use Rattle.question.specs.Held.{kindOf, tokenOf}
+use Rattle.question.specs.declared.types.Answer.{Answer}
+use Rattle.question.specs.declared.types.Answer.the-variants.{Good, Refused}
+use Rattle.question.specs.declared.condition.Tokens.{Tokens}
 use Rattle.question.specs.declared.fields.Byte.{Byte}
-use Rattle.question.specs.declared.fields.Byte.the-variants as byte
+use Rattle.question.specs.declared.fields.Byte.the-variants as bytes
 use Rattle.question.specs.declared.fields.Number.{Number}
 use Rattle.question.specs.declared.fields.Number.the-variants as number
-use Rattle.question.specs.declared.condition.Word.{Word}
-use Rattle.question.specs.declared.condition.Word.the-variants as word
+use Rattle.question.specs.declared.token.Word.{Word}
+use Rattle.question.specs.declared.token.Word.the-variants as word
 
 abbrev pub byteOf : Byte → Outcome (At ℕ)
-byteOf (byte.Is x q) = found x q
-byteOf (byte.Not n p) = bad n p
+byteOf (bytes.Is x q) = found x q
+byteOf (bytes.Not n p) = bad n p
 
 abbrev pub numberOf : Number → Outcome (At ℤ)
 numberOf (number.Is x q) = found x q
@@ -30,3 +38,36 @@ sidesAt s low high o i p =
     andThen (rightAt s low high p) λ r p.
     andThen (constantAt s p) λ k p.
     found (C.compare o i (sideOf r k)) p
+
+-- a token that takes so many values, of those that stand
+abbrev pub needsAt : C.Token → ℕ → ℕ → ℕ → ℕ → Outcome (At C.Token)
+needsAt t wants height p q = cond (leb wants height) (found t q) (bad 6 p)
+
+-- the token of number t at p, with its byte before q
+unfoldable pub wordWith : List ℕ → ℕ → ℕ → ℕ → ℕ → ℕ → ℕ → ℕ → Outcome (At C.Token)
+wordWith s low high compared height t p q =
+    cond (eqb t 1) (cond (ltb compared mostComparisons) (comparisonAt s low high q) (bad 4 p))
+    (cond (eqb t 2) (needsAt C.both 2 height p q)
+    (cond (eqb t 3) (needsAt C.either 2 height p q)
+    (needsAt C.negate 1 height p q)))
+
+-- a token, after so many comparisons and with so many values
+unfoldable pub tokenWith : List ℕ → ℕ → ℕ → ℕ → ℕ → ℕ → Outcome (At C.Token)
+tokenWith s low high compared height p = andThen (byte s 6 1 (upTo 4) p) λ t q. wordWith s low high compared height t p q
+
+-- ---- tokens
+
+-- n elements of an array and the offset after them, or a refusal
+abbrev pub listOf : {A B : Type 0} → (A → B) → Answer → ℕ → List A → ℕ → Outcome (At (List B))
+listOf g Good n xs q = found (map g (take n xs)) q
+listOf g (Refused m p) n xs q = bad m p
+
+-- where the answer is good, P
+abbrev pub IfGood : Answer → Type 0 → Type 0
+IfGood Good P = P
+IfGood (Refused m p) P = Unit {0}
+
+-- n tokens were read, and o is what 01 gives for them
+pub record TokensRead (n : ℕ) (r : Tokens) (o : Outcome (At C.Condition)) : Type 0 where
+  pub meaning : listOf tokenOf (r .answer) n (r .tokens) (r .next) ≡ o
+  pub stand : IfGood (r .answer) (r .height ≡ height (map tokenOf (take n (r .tokens))))

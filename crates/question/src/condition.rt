@@ -1,83 +1,54 @@
-// Conditions: token count, tokens. The columns they may name are numbered from `low` on and below `high`.
-ghost use mathlib.Core.Path.{_≡_};
+// Conditions: token count, tokens. The columns that they may name are numbered from `low` on and below `high`.
+ghost use Prim.Native.Nat.{_≤_};
 ghost use mathlib.Core.List.{[]};
-ghost use Prim.Native.Nat.{_≤_, _<_};
-ghost use Rattle.question.specs.Reader.{opOf, sideOf, rightAt, comparisonAt};
-ghost use Rattle.question.specs.Held as held;
-ghost use Rattle.question.specs.Pieces.{byteOf, wordOf, sidesAt};
+ghost use Rattle.question.specs.Reader.{conditionAt, tokenAt, many};
+ghost use Rattle.question.specs.Pieces.{TokensRead};
 
-use crate::fields::{Byte, Number, byte_at, number_at};
-use crate::types::{Condition, Kind, Op, Side, Token};
+use crate::fields::{Byte, byte_at};
+use crate::token::{Word, compared_after, height_after, token_at};
+use crate::types::{Answer, Condition, Kind, Token};
 
-// A token and the offset after it, or a refusal.
-pub enum Word {
-    Is(Kind, usize),
-    Not(u8, usize),
+// Tokens that were read: where the answer is good, the tokens, how many values stand after them, and the next offset.
+pub struct Tokens {
+    pub answer: Answer,
+    pub tokens: [Token; 16],
+    pub height: usize,
+    pub next: usize,
 }
 
-fn op_of(o: u8) -> Op
-    ensures { λ r. ⌜ held.opOf r ≡ opOf o ⌝ }
+fn tokens_at(s: &[u8], low: usize, high: usize, n: usize, p: usize) -> Tokens
+    requires { ⌜ n ≤ 16 ⌝ }
+    ensures { λ r. ⌜ TokensRead n r (many (tokenAt (now (s .entry)) low high) n [] p) ⌝ }
 {
-    match o {
-        1 => Op::Less,
-        2 => Op::AtMost,
-        3 => Op::Equal,
-        4 => Op::AtLeast,
-        5 => Op::More,
-        _ => Op::Unequal,
-    }
-}
-
-// A right column of 255 is none.
-fn side_of(right: u8, k: i32) -> Side
-    ensures { λ r. ⌜ held.sideOf r ≡ sideOf right k ⌝ }
-{
-    if right == 255 { Side::Constant(k) } else { Side::Column(right, k) }
-}
-
-// The right column's byte.
-fn right_at(s: &[u8], low: usize, high: usize, p: usize) -> Byte
-    ensures { λ r. ⌜ byteOf r ≡ rightAt (now (s .entry)) low high p ⌝ }
-{
-    if s.len() <= p {
-        return Byte::Not(1, p);
-    }
-    if s[p] == 255 {
-        return Byte::Is(255, p + 1);
-    }
-    byte_at(s, 7, low, high, p)
-}
-
-// A comparison's right column and constant, after its operator and left column.
-fn sides_at(s: &[u8], low: usize, high: usize, op: Op, left: u8, p: usize) -> Word
-    ensures { λ r. ⌜ wordOf r ≡ sidesAt (now (s .entry)) low high (held.opOf op) left p ⌝ }
-{
-    let b = right_at(s, low, high, p);
-    match b {
-        Byte::Is(right, q) => {
-            let v = number_at(s, 5, -2000000000, 2000000000, q);
-            match v {
-                Number::Is(k, next) => Word::Is(Kind::Compare(op, left, side_of(right, k)), next),
-                Number::Not(n, at) => Word::Not(n, at),
+    let mut tokens = [Token { kind: Kind::Both }; 16];
+    let mut compared = 0;
+    let mut height = 0;
+    let mut next = p;
+    let mut i = 0;
+    while i < n {
+        let w = token_at(s, low, high, compared, height, next);
+        match w {
+            Word::Is(kind, q) => {
+                tokens[i] = Token { kind: kind };
+                compared = compared_after(compared, kind);
+                height = height_after(height, kind);
+                next = q;
+                i += 1;
+            }
+            Word::Not(m, at) => {
+                return Tokens {
+                    answer: Answer::Refused(m, at),
+                    tokens: tokens,
+                    height: height,
+                    next: at,
+                };
             }
         }
-        Byte::Not(n, at) => Word::Not(n, at),
     }
-}
-
-// A comparison after its token byte.
-fn comparison_at(s: &[u8], low: usize, high: usize, p: usize) -> Word
-    ensures { λ r. ⌜ wordOf r ≡ comparisonAt (now (s .entry)) low high p ⌝ }
-{
-    let b = byte_at(s, 6, 1, 7, p);
-    match b {
-        Byte::Is(o, q) => {
-            let l = byte_at(s, 7, low, high, q);
-            match l {
-                Byte::Is(left, next) => sides_at(s, low, high, op_of(o), left, next),
-                Byte::Not(n, at) => Word::Not(n, at),
-            }
-        }
-        Byte::Not(n, at) => Word::Not(n, at),
+    Tokens {
+        answer: Answer::Good,
+        tokens: tokens,
+        height: height,
+        next: next,
     }
 }

@@ -3,12 +3,12 @@ use mathlib.Core.Path.{sym, ap, _∙_}
 use Rattle.question.specs.Reader.{comparisonAt}
 use Rattle.question.specs.Pieces.{byteOf, sidesAt}
 use Rattle.question.proofs.Steps.{on-good, on-bad}
-use Rattle.question.proofs.condition.comparison_at.Statement.{statement}
-use Rattle.question.proofs.condition.comparison_at.Tie as tie
-use Rattle.question.proofs.condition.comparison_at.Reads as reads
-use Rattle.question.proofs.condition.comparison_at.Lts as lts
-use Rattle.question.proofs.condition.op_of.Reads as op-of-reads
-use Rattle.question.proofs.condition.sides_at.Reads as sides-at-reads
+use Rattle.question.proofs.token.comparison_at.Statement.{statement}
+use Rattle.question.proofs.token.comparison_at.Tie as tie
+use Rattle.question.proofs.token.comparison_at.Reads as reads
+use Rattle.question.proofs.token.comparison_at.Lts as lts
+use Rattle.question.proofs.token.op_of.Reads as op-of-reads
+use Rattle.question.proofs.token.sides_at.Reads as sides-at-reads
 use Rattle.question.proofs.fields.byte_at.Reads as byte-at-reads
 
 -- src/condition.rt:71:9

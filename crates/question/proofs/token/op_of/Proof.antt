@@ -1,6 +1,6 @@
 use borrow.Author.Tests.{ne-eqb}
-use Rattle.question.proofs.condition.op_of.Statement.{statement}
-use Rattle.question.proofs.condition.op_of.Tie as tie
+use Rattle.question.proofs.token.op_of.Statement.{statement}
+use Rattle.question.proofs.token.op_of.Tie as tie
 
 returns : tie.Need-returns
 returns c = simp (c .match .keys1)

@@ -1,7 +1,7 @@
 use borrow.Author.Tests.{ne-eqb}
 use mir.Facts.{toZ-ofZ}
-use Rattle.question.proofs.condition.side_of.Statement.{statement}
-use Rattle.question.proofs.condition.side_of.Tie as tie
+use Rattle.question.proofs.token.side_of.Statement.{statement}
+use Rattle.question.proofs.token.side_of.Tie as tie
 
 returns : tie.Need-returns
 returns c = simp (toZ-ofZ, c .before .fits .k, c .if1 .taken)

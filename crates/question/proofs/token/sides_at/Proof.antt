@@ -3,12 +3,12 @@ use mathlib.Core.Path.{sym, ap, _∙_}
 use mir.Facts.{toZ-ofZ}
 use Rattle.question.specs.Pieces.{byteOf, numberOf, sidesAt}
 use Rattle.question.proofs.Steps.{on-good, on-bad}
-use Rattle.question.proofs.condition.sides_at.Statement.{statement}
-use Rattle.question.proofs.condition.sides_at.Tie as tie
-use Rattle.question.proofs.condition.sides_at.Reads as reads
-use Rattle.question.proofs.condition.sides_at.Lts as lts
-use Rattle.question.proofs.condition.right_at.Reads as right-at-reads
-use Rattle.question.proofs.condition.side_of.Reads as side-of-reads
+use Rattle.question.proofs.token.sides_at.Statement.{statement}
+use Rattle.question.proofs.token.sides_at.Tie as tie
+use Rattle.question.proofs.token.sides_at.Reads as reads
+use Rattle.question.proofs.token.sides_at.Lts as lts
+use Rattle.question.proofs.token.right_at.Reads as right-at-reads
+use Rattle.question.proofs.token.side_of.Reads as side-of-reads
 use Rattle.question.proofs.fields.number_at.Reads as number-at-reads
 
 -- src/condition.rt:54:9
