@@ -37,13 +37,14 @@ module _ {A B : Type 0} (f : List B → ℕ → Outcome (At B)) (g : A → B) (s
     pub going-on : (a : A) (next : ℕ) → n ≤ size → found (g a) next ≡ f (map g (take i xs)) q → Going f g size n whole (set xs i a) (i + 1) next
     going-on a next fit e =
         let inside : i < length xs = omega (arith, h .sized) in
-        record
-        { within = omega arith
-        ; sized = length-set xs i a ∙ h .sized
-        ; rest =
-          ap (λ bs. many f (n - (i + 1)) bs next) (more g xs i a inside)
-          ∙ ap (λ o. andThen o (λ b p. many f (n - (i + 1)) (map g (take i xs) ++ (b ∷ [])) p)) e
-          ∙ opened }
+        record {
+          within = omega arith;
+          sized = length-set xs i a ∙ h .sized;
+          rest =
+              ap (λ bs. many f (n - (i + 1)) bs next) (more g xs i a inside)
+              ∙ ap (λ o. andThen o (λ b p. many f (n - (i + 1)) (map g (take i xs) ++ (b ∷ [])) p)) e
+              ∙ opened;
+        }
 
     -- it was refused
     pub going-bad : (m r : ℕ) → bad m r ≡ f (map g (take i xs)) q → bad m r ≡ whole

@@ -4,10 +4,10 @@ use mathlib.Core.Bool.{Bool, true, false, cond, _&&_}
 use mathlib.Core.List.{List, [], _∷_, _++_, map, foldl, foldl-append}
 use Prim.Native.Nat.{ℕ, _+_, _-_, _≤_, _<_}
 use native.Mathlib.Omega.{arith}
-use lib.Dec.{ltb, leb}
+use lib.Dec.{ltb, leb, eqb}
 use lib.ListN.{length, take, set, getD}
 use Rattle.meaning.specs.Condition as C
-use Rattle.question.specs.Reader.{Outcome, bad, At, found, andThen, many, byte, tokenAt, comparisons, height, counted, after}
+use Rattle.question.specs.Reader.{Outcome, bad, At, found, andThen, many, byte, tokenAt, comparisons, height, counted, after, finish}
 use Rattle.question.specs.Held.{tokenOf}
 use Rattle.question.specs.Pieces.{tokenWith, wordWith}
 use Rattle.question.specs.declared.types.Token.{Token}
@@ -20,6 +20,7 @@ next-byte {B} s n low high p f = go (ltb p (length s)) (leb low (getD s p 0) && 
   where
     given : Bool → Bool → Outcome (At ℕ)
     given a b = cond a (cond b (found (getD s p 0) (p + 1)) (bad n p)) (bad 1 p)
+
     go : (a b : Bool) → andThen (given a b) f ≡ andThen (given a b) (λ x q. f x (p + 1))
     go true true = refl
     go true false = refl
@@ -59,19 +60,25 @@ module _ (s : List ℕ) (low high n p : ℕ) (tokens : List Token) (compared tal
       ∙ with-counts s low high (map tokenOf (take i tokens)) next
 
   pub run-on : (t : Token) (q : ℕ) → n ≤ 16 → i < n → found (tokenOf t) q ≡ tokenWith s low high compared tall next
-    → TokenRun s low high n p (set tokens i t) (counted compared (tokenOf t)) (after tall (tokenOf t)) q (i + 1)
+      → TokenRun s low high n p (set tokens i t) (counted compared (tokenOf t)) (after tall (tokenOf t)) q (i + 1)
   run-on t q fit l e =
       let inside : i < length tokens = omega (arith, run .going .sized) in
       let ts = map tokenOf (take i tokens) in
-      record
-      { going = going-on _ _ _ _ _ _ _ _ (run .going) l t q fit (e ∙ this-token)
-      ; counts =
-        ap (λ m. counted m (tokenOf t)) (run .counts)
-        ∙ sym (foldl-append counted 0 ts (tokenOf t ∷ []))
-        ∙ ap comparisons (sym (more tokenOf tokens i t inside))
-      ; stands =
-        ap (λ h. after h (tokenOf t)) (run .stands)
-        ∙ sym (foldl-append after 0 ts (tokenOf t ∷ []))
-        ∙ ap height (sym (more tokenOf tokens i t inside))
-      ; few = omega (arith, run .few, counted-le compared (tokenOf t))
-      ; bounded = omega (arith, run .bounded, after-le tall (tokenOf t)) }
+      record {
+        going = going-on _ _ _ _ _ _ _ _ (run .going) l t q fit (e ∙ this-token);
+        counts =
+            ap (λ m. counted m (tokenOf t)) (run .counts)
+            ∙ sym (foldl-append counted 0 ts (tokenOf t ∷ []))
+            ∙ ap comparisons (sym (more tokenOf tokens i t inside));
+        stands =
+            ap (λ h. after h (tokenOf t)) (run .stands)
+            ∙ sym (foldl-append after 0 ts (tokenOf t ∷ []))
+            ∙ ap height (sym (more tokenOf tokens i t inside));
+        few = omega (arith, run .few, counted-le compared (tokenOf t));
+        bounded = omega (arith, run .bounded, after-le tall (tokenOf t));
+      }
+
+-- "a nonempty condition doesn't end with one value"
+pub finish-some : (ts : C.Condition) (p : ℕ) → 0 < length ts → finish ts p ≡ cond (eqb (height ts) 1) (found ts p) (bad 6 p)
+finish-some [] p l = absurd (omega arith)
+finish-some (t ∷ ts) p l = refl

@@ -1,18 +1,20 @@
 -- What the reader's inner results mean: each as the outcome of the fields that it read. And the inner suffixes of a piece.
-use Prim.Native.Nat.{ℕ}
+use Prim.Native.Nat.{ℕ, _≤_}
 use mathlib.Core.Bool.{cond}
 use mathlib.Core.Path.{_≡_}
 use mathlib.Core.List.{List, map}
-use lib.ListN.{take}
+use lib.ListN.{length, take}
 use lib.Dec.{ltb, leb, eqb}
 use lib.IntN.{ℤ}
 use Rattle.meaning.specs.Condition as C
 use Rattle.question.specs.Reader.{Outcome, bad, At, found, andThen, byte, upTo, rightAt, constantAt, sideOf, comparisonAt, height}
-use Rattle.meaning.specs.Limits.{mostComparisons}
-use Rattle.question.specs.Held.{kindOf, tokenOf}
+use Rattle.meaning.specs.Limits.{mostTokens, mostComparisons}
+use Rattle.question.specs.Held.{kindOf, tokenOf, conditionOf}
 use Rattle.question.specs.declared.types.Answer.{Answer}
 use Rattle.question.specs.declared.types.Answer.the-variants.{Good, Refused}
+use Rattle.question.specs.declared.types.Condition.{Condition}
 use Rattle.question.specs.declared.condition.Tokens.{Tokens}
+use Rattle.question.specs.declared.condition.Clause.{Clause}
 use Rattle.question.specs.declared.fields.Byte.{Byte}
 use Rattle.question.specs.declared.fields.Byte.the-variants as bytes
 use Rattle.question.specs.declared.fields.Number.{Number}
@@ -71,3 +73,15 @@ IfGood (Refused m p) P = Unit {0}
 pub record TokensRead (n : ℕ) (r : Tokens) (o : Outcome (At C.Condition)) : Type 0 where
   pub meaning : listOf tokenOf (r .answer) n (r .tokens) (r .next) ≡ o
   pub stand : IfGood (r .answer) (r .height ≡ height (map tokenOf (take n (r .tokens))))
+  pub sized : length (r .tokens) ≡ 16
+
+-- ---- conditions
+
+abbrev pub clauseBy : Answer → Condition → ℕ → Outcome (At C.Condition)
+clauseBy Good c q = found (conditionOf c) q
+clauseBy (Refused m p) c q = bad m p
+
+-- a condition was read, and o is what 01 gives for it
+pub record ClauseRead (r : Clause) (o : Outcome (At C.Condition)) : Type 0 where
+  pub meaning : clauseBy (r .answer) (r .condition) (r .next) ≡ o
+  pub fewTokens : r .condition .count ≤ mostTokens

@@ -1,12 +1,22 @@
 // Conditions: token count, tokens. The columns that they may name are numbered from `low` on and below `high`.
+ghost use mathlib.Core.Path.{_≡_};
 ghost use Prim.Native.Nat.{_≤_};
-ghost use mathlib.Core.List.{[]};
-ghost use Rattle.question.specs.Reader.{conditionAt, tokenAt, many};
-ghost use Rattle.question.specs.Pieces.{TokensRead};
-
-use crate::fields::{Byte, byte_at};
-use crate::token::{Word, compared_after, height_after, token_at};
-use crate::types::{Answer, Condition, Kind, Token};
+ghost use mathlib.Core.List.{[], map};
+ghost use lib.ListN.{length, take};
+ghost use Rattle.question.specs.Reader as reader;
+ghost use Rattle.question.specs.Reader.{conditionAt, tokenAt, many, finish, bad, andThen};
+ghost use Rattle.question.specs.Held.{tokenOf};
+ghost use Rattle.question.specs.Pieces.{TokensRead, ClauseRead, IfGood, listOf};
+use crate::fields::Byte;
+use crate::fields::byte_at;
+use crate::token::Word;
+use crate::token::compared_after;
+use crate::token::height_after;
+use crate::token::token_at;
+use crate::types::Answer;
+use crate::types::Condition;
+use crate::types::Kind;
+use crate::types::Token;
 
 // Tokens that were read: where the answer is good, the tokens, how many values stand after them, and the next offset.
 pub struct Tokens {
@@ -50,5 +60,88 @@ fn tokens_at(s: &[u8], low: usize, high: usize, n: usize, p: usize) -> Tokens
         tokens: tokens,
         height: height,
         next: next,
+    }
+}
+
+// A condition that was read and the next offset, or a refusal.
+pub struct Clause {
+    pub answer: Answer,
+    pub condition: Condition,
+    pub next: usize,
+}
+
+// The empty condition.
+pub fn always() -> Condition
+    ensures { λ r. ⌜ r .count ≡ 0 ⌝ }
+{
+    Condition {
+        tokens: [Token { kind: Kind::Both }; 16],
+        count: 0,
+    }
+}
+
+fn no_clause(n: u8, at: usize) -> Clause
+    ensures { λ r. ⌜ ClauseRead r (bad n at) ⌝ }
+{
+    Clause {
+        answer: Answer::Refused(n, at),
+        condition: always(),
+        next: at,
+    }
+}
+
+// After the last of n tokens: a nonempty condition must end with one value.
+fn closed(tokens: [Token; 16], n: usize, height: usize, next: usize) -> Clause
+    requires { ⌜ (n ≤ 16) × (length tokens ≡ 16) × (height ≡ reader.height (map tokenOf (take n tokens))) ⌝ }
+    ensures { λ r. ⌜ ClauseRead r (finish (map tokenOf (take n tokens)) next) ⌝ }
+{
+    if n == 0 {
+        return Clause {
+            answer: Answer::Good,
+            condition: Condition {
+                tokens: tokens,
+                count: 0,
+            },
+            next: next,
+        };
+    }
+    if height == 1 {
+        Clause {
+            answer: Answer::Good,
+            condition: Condition {
+                tokens: tokens,
+                count: n,
+            },
+            next: next,
+        }
+    } else {
+        no_clause(6, next)
+    }
+}
+
+fn close(n: usize, t: Tokens) -> Clause
+    requires { ⌜ n ≤ 16 ⌝ }
+    requires { ⌜ length (t .tokens) ≡ 16 ⌝ }
+    requires { ⌜ IfGood (t .answer) (t .height ≡ reader.height (map tokenOf (take n (t .tokens)))) ⌝ }
+    ensures { λ r. ⌜ ClauseRead r (andThen (listOf tokenOf (t .answer) n (t .tokens) (t .next)) finish) ⌝ }
+{
+    let answer = t.answer;
+    let tokens = t.tokens;
+    match answer {
+        Answer::Good => closed(tokens, n, t.height, t.next),
+        Answer::Refused(m, at) => no_clause(m, at),
+    }
+}
+
+pub fn condition_at(s: &[u8], low: usize, high: usize, p: usize) -> Clause
+    ensures { λ r. ⌜ ClauseRead r (conditionAt (now (s .entry)) low high p) ⌝ }
+{
+    let b = byte_at(s, 4, 0, 17, p);
+    match b {
+        Byte::Is(n, q) => {
+            let count = n as usize;
+            close(count, tokens_at(s, low, high, count, q))
+        }
+        Byte::Not(m, at) => no_clause(m, at),
     }
 }

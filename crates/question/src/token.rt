@@ -4,9 +4,13 @@ ghost use Prim.Native.Nat.{_-_, _≤_, _<_};
 ghost use Rattle.question.specs.Reader.{opOf, sideOf, rightAt, comparisonAt, counted, after};
 ghost use Rattle.question.specs.Held as held;
 ghost use Rattle.question.specs.Pieces.{byteOf, wordOf, sidesAt, needsAt, wordWith, tokenWith};
-
-use crate::fields::{Byte, Number, byte_at, number_at};
-use crate::types::{Kind, Op, Side};
+use crate::fields::Byte;
+use crate::fields::Number;
+use crate::fields::byte_at;
+use crate::fields::number_at;
+use crate::types::Kind;
+use crate::types::Op;
+use crate::types::Side;
 
 // A token and the offset after it, or a refusal.
 pub enum Word {
@@ -31,7 +35,11 @@ fn op_of(o: u8) -> Op
 fn side_of(right: u8, k: i32) -> Side
     ensures { λ r. ⌜ held.sideOf r ≡ sideOf right k ⌝ }
 {
-    if right == 255 { Side::Constant(k) } else { Side::Column(right, k) }
+    if right == 255 {
+        Side::Constant(k)
+    } else {
+        Side::Column(right, k)
+    }
 }
 
 // The right column's byte.
@@ -93,7 +101,16 @@ fn operation(kind: Kind, wants: usize, height: usize, p: usize, q: usize) -> Wor
 }
 
 // The token of number t at p, whose byte ends before q, after `compared` comparisons and with `height` values.
-fn word_at(s: &[u8], low: usize, high: usize, compared: usize, height: usize, t: u8, p: usize, q: usize) -> Word
+fn word_at(
+    s: &[u8],
+    low: usize,
+    high: usize,
+    compared: usize,
+    height: usize,
+    t: u8,
+    p: usize,
+    q: usize,
+) -> Word
     ensures { λ r. ⌜ wordOf r ≡ wordWith (now (s .entry)) low high compared height t p q ⌝ }
 {
     match t {

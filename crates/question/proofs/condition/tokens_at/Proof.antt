@@ -66,19 +66,23 @@ returns : tie.Need-returns Inv-loop μ-loop
 returns c =
     let w = c .before in
     let l = w .before .before .before .before in
-    record
-    { meaning =
-    going-bad _ _ _ _ _ _ _ _ (l .loop .inv .going) (w .before .before .before .loop-test .taken) _ _
-    (sym (ap wordOf (w .w2 .given .1)) ∙ w .before .before .token-at .ensures ∙ this-token _ _ _ _ _ _ _ _ _ _ (l .loop .inv))
-    ; stand = search needs }
+    record {
+      meaning =
+          going-bad _ _ _ _ _ _ _ _ (l .loop .inv .going) (w .before .before .before .loop-test .taken) _ _
+          (sym (ap wordOf (w .w2 .given .1)) ∙ w .before .before .token-at .ensures ∙ this-token _ _ _ _ _ _ _ _ _ _ (l .loop .inv));
+      stand = search needs;
+      sized = l .loop .inv .going .sized;
+    }
 
 returns-2 : tie.Need-returns-2 Inv-loop μ-loop
 returns-2 c =
     let l = c .before in
     let e : l .loop .i ≡ l .before .before .args .n = omega (arith, l .loop .inv .going .within, c .loop-test .left) in
-    record
-    { meaning = going-end _ _ _ _ _ _ _ _ (l .loop .inv .going) (c .loop-test .left)
-    ; stand = l .loop .inv .stands ∙ ap (λ k. height (map tokenOf (take k (l .loop .tokens)))) e }
+    record {
+      meaning = going-end _ _ _ _ _ _ _ _ (l .loop .inv .going) (c .loop-test .left);
+      stand = l .loop .inv .stands ∙ ap (λ k. height (map tokenOf (take k (l .loop .tokens)))) e;
+      sized = l .loop .inv .going .sized;
+    }
 
 pub tokens-at-spec : {M : Type 1} → statement M
 tokens-at-spec =
