@@ -15,12 +15,15 @@ use Rattle.formula.specs.Formulas.{Formula}
 use Rattle.formula.specs.Known.{Three, fails, passes, open?, known}
 use Rattle.formula.specs.Program.{Place, places}
 use Rattle.formula.specs.Vertices.{present}
+use Rattle.formula.proofs.Proper.{Nonempty}
+use Rattle.formula.proofs.Sizes.{SmallPlace}
+use Rattle.question.specs.Accepted.{Every}
 use Rattle.sheet.specs.Facts.{start, taken, decide}
 use Rattle.sheet.specs.Fast.{sideOf, after, nearStart, strained, calmNode, strainedNode, half, fast}
-use Rattle.sheet.specs.Grow.{Growth, join, growTree}
+use Rattle.sheet.specs.Grow.{join, Growth, growTree}
 use Rattle.sheet.proofs.Fasts.{Same, join-same, fast-tree}
+use Rattle.sheet.proofs.Fit.{Fit, present-below}
 use Rattle.sheet.proofs.Holds.{InBounds, bounds-start, bounds-decide}
-use Rattle.sheet.proofs.Proper.{All, Nonempty, SmallPlace, Proper, present-below}
 
 module _ (n : ℕ) (F : Formula) where
   -- an edge at a vertex above the last of the ranges is missing
@@ -33,7 +36,7 @@ module _ (n : ℕ) (F : Formula) where
   half-among : length (F .ranges) ≤ n → n < 25 → (near : Weights) (q : Place) (ds : List Bool) (g : Grid) → InBounds (suc n) (F .ranges) g → (r r′ : Growth) → r ≡ r′ → half n F near q ds g r ≡ half (length (F .ranges)) F near q ds g r′
   half-among l few near q ds g b r r′ e = ap₂ (λ o x. cond (strained near q) (strainedNode (known (F .program) ds) o) x) (among-search (weight g) (length (F .ranges)) (alone g b) (b .floor) n l few) e
 
-  pub fast-among : length (F .ranges) ≤ n → n < 25 → (todo : List Place) (ds : List Bool) (g : Grid) (near : Weights) → InBounds (suc n) (F .ranges) g → All (SmallPlace (F .ranges)) todo → fast n F todo ds g near ≡ fast (length (F .ranges)) F todo ds g near
+  pub fast-among : length (F .ranges) ≤ n → n < 25 → (todo : List Place) (ds : List Bool) (g : Grid) (near : Weights) → InBounds (suc n) (F .ranges) g → Every (SmallPlace (F .ranges)) todo → fast n F todo ds g near ≡ fast (length (F .ranges)) F todo ds g near
   unfolding fast
   fast-among l few [] ds g near b a = refl
   fast-among l few (p ∷ todo) ds g near b a = ap₂ (λ t f. calmNode (known (F .program) ds) (near 0) (join t f)) (side true (λ b′. fast-among l few todo _ _ _ b′ (a .1))) (side false (λ b′. fast-among l few todo _ _ _ b′ (a .1)))
@@ -73,7 +76,7 @@ module _ (n : ℕ) (F : Formula) where
       go true open? o = refl
       go false k o = h
 
-  pub fast-table : (todo : List Place) (ds : List Bool) (g : Grid) (near near′ : Weights) → SameBelow near near′ → All Ends todo → Same n F (fast n F todo ds g near) (fast n F todo ds g near′)
+  pub fast-table : (todo : List Place) (ds : List Bool) (g : Grid) (near near′ : Weights) → SameBelow near near′ → Every Ends todo → Same n F (fast n F todo ds g near) (fast n F todo ds g near′)
   unfolding fast
   fast-table [] ds g near near′ s a = calm-table near near′ s (known (F .program) ds) _ _ (λ v hv. s 0 v (omega arith) hv)
   fast-table (p ∷ todo) ds g near near′ s a =
@@ -81,13 +84,13 @@ module _ (n : ℕ) (F : Formula) where
       (join-same n F (sideOf n F p todo ds g near true) (sideOf n F p todo ds g near′ true) (sideOf n F p todo ds g near false) (sideOf n F p todo ds g near′ false)
       (side true (fast-table todo (ds ++ true ∷ []) (decide g p true))) (side false (fast-table todo (ds ++ false ∷ []) (decide g p false))))
     where
-      side : (d : Bool) → ((m m′ : Weights) → SameBelow m m′ → All Ends todo → Same n F (fast n F todo (ds ++ d ∷ []) (decide g p d) m) (fast n F todo (ds ++ d ∷ []) (decide g p d) m′)) → Same n F (sideOf n F p todo ds g near d) (sideOf n F p todo ds g near′ d)
+      side : (d : Bool) → ((m m′ : Weights) → SameBelow m m′ → Every Ends todo → Same n F (fast n F todo (ds ++ d ∷ []) (decide g p d) m) (fast n F todo (ds ++ d ∷ []) (decide g p d) m′)) → Same n F (sideOf n F p todo ds g near d) (sideOf n F p todo ds g near′ d)
       side d f =
           let e = ends-taken p d (a .0) in
           half-table near near′ (taken p d) (ds ++ d ∷ []) (decide g p d) s e _ _ (f (after near (taken p d)) (after near′ (taken p d)) (after-table near near′ (taken p d) s e) (a .1))
 
   -- ---- what the code works out for a formula is what the writer's rule comes to
-  pub fast-formula : Proper (suc n) F → All Nonempty (F .ranges) → Same n F (growTree n F) (fast (length (F .ranges)) F (places (F .program)) [] (start (suc n) (F .ranges)) (nearStart (F .ranges)))
+  pub fast-formula : Fit (suc n) F → Every Nonempty (F .ranges) → Same n F (growTree n F) (fast (length (F .ranges)) F (places (F .program)) [] (start (suc n) (F .ranges)) (nearStart (F .ranges)))
   fast-formula p e =
       let m = length (F .ranges) in
       let few : n < 25 = omega (arith, p .few) in

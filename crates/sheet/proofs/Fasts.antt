@@ -17,13 +17,16 @@ use Rattle.formula.specs.Formulas.{Formula}
 use Rattle.formula.specs.Known.{Three, fails, passes, open?, known}
 use Rattle.formula.specs.Program.{Values, Place, places}
 use Rattle.formula.specs.Vertices.{present}
+use Rattle.formula.proofs.Proper.{Nonempty}
+use Rattle.formula.proofs.Sizes.{SmallPlace}
+use Rattle.question.specs.Accepted.{Every}
 use Rattle.sheet.specs.Facts.{start, taken, decide}
 use Rattle.sheet.specs.Fast.{after, nearStart, strained, calmNode, strainedNode, half, fast}
-use Rattle.sheet.specs.Grow.{Growth, shut, openAt, join, atNode, grow, growTree}
+use Rattle.sheet.specs.Grow.{join, Growth, shut, openAt, atNode, grow, growTree}
 use Rattle.sheet.specs.Tree.{split}
+use Rattle.sheet.proofs.Fit.{Fit, present-below}
 use Rattle.sheet.proofs.Holds.{bounds-start}
 use Rattle.sheet.proofs.NearStart.{start-closure}
-use Rattle.sheet.proofs.Proper.{All, Nonempty, SmallPlace, Proper, present-below}
 
 module _ (n : ℕ) (F : Formula) where
   -- the same tree, or the same values at the vertices
@@ -68,7 +71,7 @@ module _ (n : ℕ) (F : Formula) where
       go true yes′ no′ = let f = near-some n (weight g) near c (q .right) (q .left) (q .most) hr hl (weight g′) (tightened (suc n) g (q .right) (q .left) (q .most) s hr hl) (yes′ tt) in grow-cut todo ds g′ (f .0) (f .1)
       go false yes′ no′ = h (no′ tt)
 
-  pub fast-same : (todo : List Place) (ds : List Bool) (g : Grid) (near : Weights) → Closure (suc n) (weight g) near → Sized (suc n) g → All (λ p. (p .left < suc n) × (p .right < suc n)) todo → Same (grow n F todo ds g) (fast n F todo ds g near)
+  pub fast-same : (todo : List Place) (ds : List Bool) (g : Grid) (near : Weights) → Closure (suc n) (weight g) near → Sized (suc n) g → Every (λ p. (p .left < suc n) × (p .right < suc n)) todo → Same (grow n F todo ds g) (fast n F todo ds g near)
   unfolding grow fast
   fast-same [] ds g near c s a = rw (near-none n (weight g) near c) (calm-same g near c (known (F .program) ds) _ _ (near-dist n (weight g) near c))
   fast-same (p ∷ todo) ds g near c s a =
@@ -84,12 +87,12 @@ module _ (n : ℕ) (F : Formula) where
       keeps q hl hr h = relax-closure (suc n) (weight g) near c (q .right) (q .left) (q .most) hr hl (weight (tighten g (q .right) (q .left) (q .most))) (tightened (suc n) g (q .right) (q .left) (q .most) s hr hl) h
 
   -- the code's way and the writer's rule come to the same on a formula
-  pub fast-tree : Proper (suc n) F → All Nonempty (F .ranges) → Same (growTree n F) (fast n F (places (F .program)) [] (start (suc n) (F .ranges)) (nearStart (F .ranges)))
+  pub fast-tree : Fit (suc n) F → Every Nonempty (F .ranges) → Same (growTree n F) (fast n F (places (F .program)) [] (start (suc n) (F .ranges)) (nearStart (F .ranges)))
   fast-tree h e = fast-same (places (F .program)) [] (start (suc n) (F .ranges)) (nearStart (F .ranges)) (start-closure (suc n) (F .ranges) (h .some-vertex) (h .ranges-small) e) (bounds-start (suc n) (F .ranges) (h .ranges-small) .sized) (ends (places (F .program)) (h .places-small))
     where
       below : (v : ℕ) → T (present (F .ranges) v) → v < suc n
       below v t = omega (arith, present-below (F .ranges) v t, h .some-vertex)
 
-      ends : (ps : List Place) → All (SmallPlace (F .ranges)) ps → All (λ p. (p .left < suc n) × (p .right < suc n)) ps
+      ends : (ps : List Place) → Every (SmallPlace (F .ranges)) ps → Every (λ p. (p .left < suc n) × (p .right < suc n)) ps
       ends [] a = tt
       ends (p ∷ ps) a = ((below (p .left) (a .0 .left-is), below (p .right) (a .0 .right-is)), ends ps (a .1))

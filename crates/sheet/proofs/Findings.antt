@@ -9,11 +9,12 @@ use lib.ListN.{length, getD, length-append}
 use Rattle.formula.specs.Formulas.{Formula}
 use Rattle.formula.specs.Program.{Values, truth}
 use Rattle.formula.specs.Vertices.{InRange}
+use Rattle.question.specs.Accepted.{Every}
 use Rattle.sheet.specs.Grow.{Growth, shut, openAt, growTree}
 use Rattle.sheet.specs.Tree.{Outcome, andThen, Tree, bytesOf, passed, refused, checkTree}
 use Rattle.sheet.specs.Trees.{checkTrees, Finding, allShut, firstOpen, before, writeTrees, bytesAll}
+use Rattle.sheet.proofs.Fit.{Fit}
 use Rattle.sheet.proofs.Grows.{shut-passes, open-holds, shut-fails}
-use Rattle.sheet.proofs.Proper.{All, Proper}
 use Rattle.sheet.proofs.Sound.{sound}
 
 abbrev pub Fails : Formula → Type 0
@@ -21,10 +22,10 @@ Fails F = (ρ : Values) → InRange (F .ranges) ρ → truth ρ (F .program) ≡
 
 -- ---- what passes: every formula fails
 abbrev AllFail : List Formula → Outcome → Type 0
-AllFail Fs (passed o r) = All Fails Fs
+AllFail Fs (passed o r) = Every Fails Fs
 AllFail Fs (refused m o) = Unit {0}
 
-trees-sound : (N : ℕ) (Fs : List Formula) → All (Proper N) Fs → (at : ℕ) (bs : List ℕ) → AllFail Fs (checkTrees N Fs at bs)
+trees-sound : (N : ℕ) (Fs : List Formula) → Every (Fit N) Fs → (at : ℕ) (bs : List ℕ) → AllFail Fs (checkTrees N Fs at bs)
 unfolding checkTrees
 trees-sound N [] a at bs = tt
 trees-sound N (F ∷ Fs) a at bs = go (checkTree N F at bs) refl (λ o r. trees-sound N Fs (a .1) o r)
@@ -48,7 +49,7 @@ abbrev Found : ℕ → List Formula → Finding → Type 0
 Found n Fs (allShut ts) = (at : ℕ) (rest : List ℕ) → checkTrees (suc n) Fs at (bytesAll ts ++ rest) ≡ passed (at + length (bytesAll ts)) rest
 Found n Fs (firstOpen i G x) = Opens Fs i G x
 
-trees-found : (n : ℕ) (Fs : List Formula) → All (Proper (suc n)) Fs → Found n Fs (writeTrees n Fs)
+trees-found : (n : ℕ) (Fs : List Formula) → Every (Fit (suc n)) Fs → Found n Fs (writeTrees n Fs)
 unfolding checkTrees writeTrees bytesAll
 trees-found n [] a = λ at rest. ap (λ o. passed o rest) (omega arith)
 trees-found n (F ∷ Fs) a = go (growTree n F) refl (writeTrees n Fs) (trees-found n Fs (a .1))
@@ -63,15 +64,15 @@ trees-found n (F ∷ Fs) a = go (growTree n F) refl (writeTrees n Fs) (trees-fou
         ∙ ap (λ o. passed o rest) (omega (arith, length-append (bytesOf t) (bytesAll ts)))
 
 -- a written yes passes
-pub yes-found : (n : ℕ) (Fs : List Formula) → All (Proper (suc n)) Fs → (ts : List Tree) → writeTrees n Fs ≡ allShut ts → (at : ℕ) → checkTrees (suc n) Fs at (bytesAll ts) ≡ passed (at + length (bytesAll ts)) []
+pub yes-found : (n : ℕ) (Fs : List Formula) → Every (Fit (suc n)) Fs → (ts : List Tree) → writeTrees n Fs ≡ allShut ts → (at : ℕ) → checkTrees (suc n) Fs at (bytesAll ts) ≡ passed (at + length (bytesAll ts)) []
 yes-found n Fs a ts e at = ap (λ bs. checkTrees (suc n) Fs at bs) (sym (append-nil (bytesAll ts))) ∙ (rw e at (trees-found n Fs a)) at []
 
 -- what passes is right
-pub yes-sound : (N : ℕ) (Fs : List Formula) → All (Proper N) Fs → (at : ℕ) (bs : List ℕ) (o : ℕ) (r : List ℕ) → checkTrees N Fs at bs ≡ passed o r → All Fails Fs
+pub yes-sound : (N : ℕ) (Fs : List Formula) → Every (Fit N) Fs → (at : ℕ) (bs : List ℕ) (o : ℕ) (r : List ℕ) → checkTrees N Fs at bs ≡ passed o r → Every Fails Fs
 yes-sound N Fs a at bs o r e = rw e at (trees-sound N Fs a at bs)
 
 -- a written no, and then no yes passes
-pub no-found : (n : ℕ) (Fs : List Formula) → All (Proper (suc n)) Fs → (i : ℕ) (G : Formula) (x : Values) → writeTrees n Fs ≡ firstOpen i G x → Opens Fs i G x
+pub no-found : (n : ℕ) (Fs : List Formula) → Every (Fit (suc n)) Fs → (i : ℕ) (G : Formula) (x : Values) → writeTrees n Fs ≡ firstOpen i G x → Opens Fs i G x
 no-found n Fs a i G x e = rw e at (trees-found n Fs a)
 
 -- the formula's number, and that it holds
@@ -80,11 +81,11 @@ opens-at [] i G x h F = absurd h
 opens-at (E ∷ Fs) zero G x h F = (omega arith, h .0, h .1, h .2)
 opens-at (E ∷ Fs) (suc i) G x h F = let r = opens-at Fs i G x (h .1) F in (omega (arith, r .0), r .1, r .2, r .3)
 
-pub all-at : (P : Formula → Type 0) (Fs : List Formula) → All P Fs → (i : ℕ) (F : Formula) → i < length Fs → P (getD Fs i F)
+pub all-at : (P : Formula → Type 0) (Fs : List Formula) → Every P Fs → (i : ℕ) (F : Formula) → i < length Fs → P (getD Fs i F)
 all-at P [] a i F h = absurd (omega arith)
 all-at P (E ∷ Fs) a zero F h = a .0
 all-at P (E ∷ Fs) a (suc i) F h = all-at P Fs (a .1) i F (omega arith)
 
 -- some formula that holds on values in range, and then not all fail
-pub not-all : (Fs : List Formula) (i : ℕ) (F : Formula) (x : Values) → i < length Fs → InRange (getD Fs i F .ranges) x → truth x (getD Fs i F .program) ≡ true → ¬ All Fails Fs
+pub not-all : (Fs : List Formula) (i : ℕ) (F : Formula) (x : Values) → i < length Fs → InRange (getD Fs i F .ranges) x → truth x (getD Fs i F .program) ≡ true → ¬ Every Fails Fs
 not-all Fs i F x h r t a = true≢false (sym t ∙ all-at Fails Fs a i F h x r)

@@ -21,12 +21,15 @@ use Rattle.formula.specs.Known.{Three, fails, passes, open?, known}
 use Rattle.formula.specs.Program.{Values, test, Place, places}
 use Rattle.formula.specs.Vertices.{InRange, Ranges, present}
 use Rattle.formula.proofs.Knows.{Agrees, known-sure}
+use Rattle.formula.proofs.Proper.{SmallRange}
+use Rattle.formula.proofs.Sizes.{SmallPlace}
+use Rattle.question.specs.Accepted.{Every}
 use Rattle.sheet.specs.Facts.{start, decide}
-use Rattle.sheet.specs.Grow.{Growth, shut, openAt, join, atNode, grow, growTree}
+use Rattle.sheet.specs.Grow.{join, Growth, shut, openAt, atNode, grow, growTree}
+use Rattle.sheet.proofs.Fit.{Fit, present-below, in-range-small}
 use Rattle.sheet.proofs.Grows.{never-open}
 use Rattle.sheet.proofs.Holds.{InBounds, bounds-start, bounds-decide}
 use Rattle.sheet.proofs.Meets.{Meets, meets-start, meets-decide}
-use Rattle.sheet.proofs.Proper.{All, SmallRange, SmallPlace, Proper, present-below, in-range-small}
 use Rattle.sheet.proofs.Sound.{snoc-lengths}
 
 abbrev Met : Formula → Grid → List Bool → Type 0
@@ -43,7 +46,7 @@ abbrev filled : Ranges → Values → Values
 filled rs y v = cond (present rs v) (y v) (pos 0)
 
 module _ (n : ℕ) (F : Formula) where
-  filled-sat : (g : Grid) (y : Values) → InBounds (suc n) (F .ranges) g → All SmallRange (F .ranges) → InRange (F .ranges) y → Meets (F .ranges) g y → Sat (weight g) (suc n) (filled (F .ranges) y)
+  filled-sat : (g : Grid) (y : Values) → InBounds (suc n) (F .ranges) g → Every SmallRange (F .ranges) → InRange (F .ranges) y → Meets (F .ranges) g y → Sat (weight g) (suc n) (filled (F .ranges) y)
   unfolding Sat
   filled-sat g y b a h m u v hu hv = go (present (F .ranges) u) (present (F .ranges) v) (λ t. t) (λ t. t) (λ t. t) (λ t. t)
     where
@@ -78,7 +81,7 @@ module _ (n : ℕ) (F : Formula) where
   join-best (shut t) (openAt x) h k = k
   join-best (shut t) (shut f) h k = tt
 
-  open-best : (ds : List Bool) (g : Grid) → length (F .ranges) < suc n → All SmallRange (F .ranges) → InBounds (suc n) (F .ranges) g → Met F g ds → known (F .program) ds ≡ passes → search (weight g) n ≡ none → GreatestLeaf (dist (weight g) n)
+  open-best : (ds : List Bool) (g : Grid) → length (F .ranges) < suc n → Every SmallRange (F .ranges) → InBounds (suc n) (F .ranges) g → Met F g ds → known (F .program) ds ≡ passes → search (weight g) n ≡ none → GreatestLeaf (dist (weight g) n)
   open-best ds g l a b m e d =
       let r = dist-greatest (weight g) n (rw d at (search-is (weight g) n)) in
       record {
@@ -87,14 +90,14 @@ module _ (n : ℕ) (F : Formula) where
         most = λ y h k v t. rw (filled-at y v t) at (r .most (filled (F .ranges) y) (h .at-zero) (filled-sat g y b a h (m y h k)) v (omega (arith, present-below (F .ranges) v t)));
       }
 
-  node-best : (ds : List Bool) (g : Grid) → length (F .ranges) < suc n → All SmallRange (F .ranges) → InBounds (suc n) (F .ranges) g → Met F g ds → (k : Three) → known (F .program) ds ≡ k → (s : Option (List ℕ)) → search (weight g) n ≡ s → (r : Growth) → (k ≡ open? → Best r) → Best (atNode k s (dist (weight g) n) r)
+  node-best : (ds : List Bool) (g : Grid) → length (F .ranges) < suc n → Every SmallRange (F .ranges) → InBounds (suc n) (F .ranges) g → Met F g ds → (k : Three) → known (F .program) ds ≡ k → (s : Option (List ℕ)) → search (weight g) n ≡ s → (r : Growth) → (k ≡ open? → Best r) → Best (atNode k s (dist (weight g) n) r)
   node-best ds g l a b m fails e s d r h = tt
   node-best ds g l a b m passes e (some c) d r h = tt
   node-best ds g l a b m passes e none d r h = open-best ds g l a b m e d
   node-best ds g l a b m open? e (some c) d r h = tt
   node-best ds g l a b m open? e none d r h = h refl
 
-  grow-best : (todo done : List Place) (ds : List Bool) (g : Grid) → places (F .program) ≡ done ++ todo → length done ≡ length ds → length (F .ranges) < suc n → All SmallRange (F .ranges) → All (SmallPlace (F .ranges)) todo → InBounds (suc n) (F .ranges) g → Met F g ds → Best (grow n F todo ds g)
+  grow-best : (todo done : List Place) (ds : List Bool) (g : Grid) → places (F .program) ≡ done ++ todo → length done ≡ length ds → length (F .ranges) < suc n → Every SmallRange (F .ranges) → Every (SmallPlace (F .ranges)) todo → InBounds (suc n) (F .ranges) g → Met F g ds → Best (grow n F todo ds g)
   unfolding grow
   grow-best [] done ds g e l h a s b m =
       let all : length (places (F .program)) ≤ length ds = omega (arith, ap length e, length-append done []) in
@@ -108,5 +111,5 @@ module _ (n : ℕ) (F : Formula) where
       next : (d : Bool) → Met F (decide g p d) (ds ++ d ∷ [])
       next d y h k = let u = unsnoc y done p todo ds d l (rw e at k) in meets-decide (F .ranges) g y p d (m y h (rw e (u .0))) (u .1)
 
-  pub open-greatest : Proper (suc n) F → (x : Values) → growTree n F ≡ openAt x → GreatestLeaf x
+  pub open-greatest : Fit (suc n) F → (x : Values) → growTree n F ≡ openAt x → GreatestLeaf x
   open-greatest p x e = rw e at (grow-best (places (F .program)) [] [] (start (suc n) (F .ranges)) refl refl (p .some-vertex) (p .ranges-small) (p .places-small) (bounds-start (suc n) (F .ranges) (p .ranges-small)) (λ y h k. meets-start (suc n) (F .ranges) y h (p .ranges-small)))

@@ -19,11 +19,13 @@ use Rattle.formula.specs.Known.{Three, fails, passes, open?, known}
 use Rattle.formula.specs.Program.{Values, Place, truth, places}
 use Rattle.formula.specs.Vertices.{InRange, Ranges, present}
 use Rattle.formula.proofs.Knows.{known-says, Sure, known-sure}
+use Rattle.formula.proofs.Sizes.{SmallPlace}
+use Rattle.question.specs.Accepted.{Every}
 use Rattle.sheet.specs.Facts.{start, decide}
-use Rattle.sheet.specs.Grow.{Growth, shut, openAt, join, atNode, grow, growTree}
+use Rattle.sheet.specs.Grow.{join, Growth, shut, openAt, atNode, grow, growTree}
 use Rattle.sheet.specs.Tree.{more, Outcome, andThen, Tree, cycle, bytesOf, passed, refused, got, vertices, cycleNode, node, check, checkTree}
+use Rattle.sheet.proofs.Fit.{Fit, present-below, to-true}
 use Rattle.sheet.proofs.Holds.{InBounds, bounds-start, bounds-decide, negative-present, Records, records-start, records-decide}
-use Rattle.sheet.proofs.Proper.{All, SmallPlace, Proper, present-below, to-true}
 use Rattle.sheet.proofs.Sound.{sound, snoc-lengths}
 
 pub never-open : (k : Three) → Sure k → k ≢ open?
@@ -34,12 +36,12 @@ never-open open? h e = h
 -- n + 1 vertices
 module _ (n : ℕ) (F : Formula) where
   -- ---- (a) what is shut passes the check
-  vertices-read : (rs : Ranges) (c : List ℕ) (at : ℕ) (rest : List ℕ) → All (λ v. T (present rs v)) c → vertices rs (length c) at (c ++ rest) ≡ got c (at + length c) rest
+  vertices-read : (rs : Ranges) (c : List ℕ) (at : ℕ) (rest : List ℕ) → Every (λ v. T (present rs v)) c → vertices rs (length c) at (c ++ rest) ≡ got c (at + length c) rest
   unfolding vertices
   vertices-read rs [] at rest a = ap (λ o. got [] o rest) (omega arith)
   vertices-read rs (v ∷ c) at rest a = rw (to-true (present rs v) (a .0)) (ap (more v) (vertices-read rs c (suc at) rest (a .1)) ∙ ap (λ o. got (v ∷ c) o rest) (omega arith))
 
-  cycle-passes : (g : Grid) (c : List ℕ) (at : ℕ) (rest : List ℕ) → 0 < length c → length c ≤ suc n → All (λ v. T (present (F .ranges) v)) c → closed (weight g) c <ℤ pos 0 → cycleNode (suc n) F g at (length c ∷ c ++ rest) ≡ passed (suc (suc at) + length c) rest
+  cycle-passes : (g : Grid) (c : List ℕ) (at : ℕ) (rest : List ℕ) → 0 < length c → length c ≤ suc n → Every (λ v. T (present (F .ranges) v)) c → closed (weight g) c <ℤ pos 0 → cycleNode (suc n) F g at (length c ∷ c ++ rest) ≡ passed (suc (suc at) + length c) rest
   cycle-passes g [] at rest l m a h = absurd (omega arith)
   cycle-passes g (v ∷ p) at rest l m a h = rw (to-true (leb (suc (length p)) (suc n)) (le→leb (suc (length p)) (suc n) m), vertices-read (F .ranges) (v ∷ p) (suc (suc at)) rest a, to-true (ltZ (closed (weight g) (v ∷ p)) (pos 0)) (h .lt))
 
@@ -72,7 +74,7 @@ module _ (n : ℕ) (F : Formula) where
       ∙ k (suc at + length (bytesOf t)) rest
       ∙ ap (λ o. passed o rest) (omega (arith, length-append (bytesOf t) (bytesOf f)))
 
-  grow-passes : (todo : List Place) (ds : List Bool) (g : Grid) → suc n ≤ 25 → InBounds (suc n) (F .ranges) g → All (SmallPlace (F .ranges)) todo → Passes (λ at bs. check (suc n) F todo ds g at bs) (grow n F todo ds g)
+  grow-passes : (todo : List Place) (ds : List Bool) (g : Grid) → suc n ≤ 25 → InBounds (suc n) (F .ranges) g → Every (SmallPlace (F .ranges)) todo → Passes (λ at bs. check (suc n) F todo ds g at bs) (grow n F todo ds g)
   unfolding grow check
   grow-passes [] ds g few b a = node-passes ds g (λ at rest. refused 15 at) b few (known (F .program) ds) refl (search (weight g) n) refl (dist (weight g) n) (openAt (dist (weight g) n)) tt
   grow-passes (p ∷ todo) ds g few b a =
@@ -109,7 +111,7 @@ module _ (n : ℕ) (F : Formula) where
   node-meant ds g rec open? e (some c) d r h = tt
   node-meant ds g rec open? e none d r h = h refl
 
-  grow-meant : (todo done : List Place) (ds : List Bool) (g : Grid) → places (F .program) ≡ done ++ todo → length done ≡ length ds → length (F .ranges) < suc n → All (SmallPlace (F .ranges)) todo → InBounds (suc n) (F .ranges) g → Records (suc n) (F .ranges) (places (F .program)) g ds → Meant (grow n F todo ds g)
+  grow-meant : (todo done : List Place) (ds : List Bool) (g : Grid) → places (F .program) ≡ done ++ todo → length done ≡ length ds → length (F .ranges) < suc n → Every (SmallPlace (F .ranges)) todo → InBounds (suc n) (F .ranges) g → Records (suc n) (F .ranges) (places (F .program)) g ds → Meant (grow n F todo ds g)
   unfolding grow
   grow-meant [] done ds g e l h a b r =
       let all : length (places (F .program)) ≤ length ds = omega (arith, ap length e, length-append done []) in
@@ -127,7 +129,7 @@ module _ (n : ℕ) (F : Formula) where
       next d = rw e (records-decide (suc n) (F .ranges) done p todo g ds d (b .sized) (below (p .left) (a .0 .left-is)) (below (p .right) (a .0 .right-is)) l (rw e at r))
 
   -- ---- the writer and the checker of a formula
-  module _ (proper : Proper (suc n) F) where
+  module _ (proper : Fit (suc n) F) where
     pub shut-passes : (t : Tree) → growTree n F ≡ shut t → (at : ℕ) (rest : List ℕ) → checkTree (suc n) F at (bytesOf t ++ rest) ≡ passed (at + length (bytesOf t)) rest
     shut-passes t e = rw e at (grow-passes (places (F .program)) [] (start (suc n) (F .ranges)) (proper .few) (bounds-start (suc n) (F .ranges) (proper .ranges-small)) (proper .places-small))
 

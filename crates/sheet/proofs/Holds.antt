@@ -17,8 +17,11 @@ use Rattle.grid.proofs.Grids.{tighten-keeps, tighten-le, tighten-sized, tighten
 use Rattle.formula.specs.Program.{Values, test, Place}
 use Rattle.formula.specs.Vertices.{Within, InRange, Ranges, isSome, present}
 use Rattle.formula.proofs.Knows.{Agrees}
+use Rattle.formula.proofs.Proper.{SmallRange}
+use Rattle.formula.proofs.Sizes.{SmallPlace}
+use Rattle.question.specs.Accepted.{Every}
 use Rattle.sheet.specs.Facts.{start, confine, confineAll, decide}
-use Rattle.sheet.proofs.Proper.{All, SmallRange, SmallPlace, to-true, to-false}
+use Rattle.sheet.proofs.Fit.{to-true, to-false}
 use Rattle.sheet.proofs.Sound.{agrees-snoc}
 
 pub record InBounds (N : ℕ) (rs : Ranges) (g : Grid) : Type 0 where
@@ -47,7 +50,7 @@ bounds-blank N rs = record {
 abbrev FromVertex : Ranges → ℕ → Ranges → Type 0
 FromVertex rs s ts = (i : ℕ) → T (isSome (getD ts i none)) → (v : ℕ) → v ≡ s + i → T (present rs v)
 
-bounds-confine : (N : ℕ) (rs : Ranges) (g : Grid) (s : ℕ) (ts : Ranges) → FromVertex rs s ts → All SmallRange ts → InBounds N rs g → InBounds N rs (confineAll g s ts)
+bounds-confine : (N : ℕ) (rs : Ranges) (g : Grid) (s : ℕ) (ts : Ranges) → FromVertex rs s ts → Every SmallRange ts → InBounds N rs g → InBounds N rs (confineAll g s ts)
 unfolding confineAll
 bounds-confine N rs g s [] f a b = b
 bounds-confine N rs g s (none ∷ ts) f a b = bounds-confine N rs g (suc s) ts (λ i t v e. f (suc i) t v (omega arith)) (a .1) b
@@ -57,7 +60,7 @@ bounds-confine N rs g s (some r ∷ ts) f a b =
     (bounds-tighten N rs (tighten g 0 s (r .hi)) s 0 (negℤ (r .lo)) here tt (omega (arith, neg-dn (r .lo), a .0 .2))
     (bounds-tighten N rs g 0 s (r .hi) tt here (omega (arith, a .0 .1)) b))
 
-pub bounds-start : (N : ℕ) (rs : Ranges) → All SmallRange rs → InBounds N rs (start N rs)
+pub bounds-start : (N : ℕ) (rs : Ranges) → Every SmallRange rs → InBounds N rs (start N rs)
 bounds-start N rs a = bounds-confine N rs (blank N) 1 rs (λ i t v e. let d : v ≡ suc i = omega arith in rw d t) a (bounds-blank N rs)
 
 pub bounds-decide : (N : ℕ) (rs : Ranges) (g : Grid) (p : Place) (d : Bool) → SmallPlace rs p → InBounds N rs g → InBounds N rs (decide g p d)
@@ -70,7 +73,7 @@ module _ (N : ℕ) (rs : Ranges) (g : Grid) (b : InBounds N rs g) where
   lacks u [] t f = b .no-way-out u t f
   lacks u (x ∷ p) t f = inl (b .no-way-out u x f)
 
-  present-or-misses : (u : ℕ) (p : List ℕ) (t : ℕ) → All (λ v. T (present rs v)) (u ∷ p) ⊎ Misses (weight g) (b .floor) u p t
+  present-or-misses : (u : ℕ) (p : List ℕ) (t : ℕ) → Every (λ v. T (present rs v)) (u ∷ p) ⊎ Misses (weight g) (b .floor) u p t
   present-or-misses u [] t = go (present rs u) (λ h. h) (λ h. h)
     where
       go : (c : Bool) → (T c → T (present rs u)) → (T (present rs u) → T c) → (T (present rs u) × Unit {0}) ⊎ Misses (weight g) (b .floor) u [] t
@@ -78,12 +81,12 @@ module _ (N : ℕ) (rs : Ranges) (g : Grid) (b : InBounds N rs g) where
       go false yes′ no′ = inr (lacks u [] t no′)
   present-or-misses u (x ∷ p) t = go (present rs u) (λ h. h) (λ h. h) (present-or-misses x p t)
     where
-      go : (c : Bool) → (T c → T (present rs u)) → (T (present rs u) → T c) → All (λ v. T (present rs v)) (x ∷ p) ⊎ Misses (weight g) (b .floor) x p t → All (λ v. T (present rs v)) (u ∷ (x ∷ p)) ⊎ Misses (weight g) (b .floor) u (x ∷ p) t
+      go : (c : Bool) → (T c → T (present rs u)) → (T (present rs u) → T c) → Every (λ v. T (present rs v)) (x ∷ p) ⊎ Misses (weight g) (b .floor) x p t → Every (λ v. T (present rs v)) (u ∷ (x ∷ p)) ⊎ Misses (weight g) (b .floor) u (x ∷ p) t
       go true yes′ no′ (inl a) = inl (yes′ tt, a)
       go true yes′ no′ (inr m) = inr (inr m)
       go false yes′ no′ r = inr (lacks u (x ∷ p) t no′)
 
-  pub negative-present : (c : List ℕ) → length c ≤ 25 → closed (weight g) c <ℤ pos 0 → All (λ v. T (present rs v)) c
+  pub negative-present : (c : List ℕ) → length c ≤ 25 → closed (weight g) c <ℤ pos 0 → Every (λ v. T (present rs v)) c
   negative-present [] l h = tt
   negative-present (v ∷ p) l h = elim (present-or-misses v p v) [ inl a ↦ a | inr m ↦ absurd (omega (ints, missing-closed (weight g) (b .floor) v p (omega arith) m)) ]
 

@@ -1,4 +1,4 @@
-pub mod Proper
+pub mod Fit
 pub mod Meets
 pub mod Sound
 pub mod Holds
@@ -11,3 +11,11 @@ pub mod Fasts
 pub mod Steps
 pub mod FastAmong
 pub mod Puts
+pub mod Fields
+pub mod Values
+pub mod Inserted
+pub mod Agreed
+pub mod Passes
+pub mod Shows
+pub mod Writes
+pub mod Sheets

@@ -14,8 +14,10 @@ use Rattle.grid.specs.Walk.{from, closed}
 use Rattle.grid.proofs.Grids.{tighten-keeps, blank-far}
 use Rattle.formula.specs.Program.{Values, test, Place}
 use Rattle.formula.specs.Vertices.{Within, InRange, Ranges, present}
+use Rattle.formula.proofs.Proper.{SmallRange}
+use Rattle.question.specs.Accepted.{Every}
 use Rattle.sheet.specs.Facts.{start, confine, confineAll, decide}
-use Rattle.sheet.proofs.Proper.{All, SmallRange, in-range-small, from-true, from-false}
+use Rattle.sheet.proofs.Fit.{in-range-small, from-true, from-false}
 
 abbrev pub Meets : Ranges → Grid → Values → Type 0
 Meets rs g ρ = (u v : ℕ) → T (present rs u) → T (present rs v) → ρ v ≤ℤ (ρ u +ℤ weight g u v)
@@ -23,7 +25,7 @@ Meets rs g ρ = (u v : ℕ) → T (present rs u) → T (present rs v) → ρ v �
 meets-tighten : (rs : Ranges) (g : Grid) (ρ : Values) (u v : ℕ) (k : ℤ) → Meets rs g ρ → ρ v ≤ℤ (ρ u +ℤ k) → Meets rs (tighten g u v k) ρ
 meets-tighten rs g ρ u v k m h a b ha hb = tighten-keeps (λ z. ρ b ≤ℤ (ρ a +ℤ z)) g u v k a b (m a b ha hb) (λ d e. rw (d, e) h)
 
-meets-blank : (N : ℕ) (rs : Ranges) (ρ : Values) → InRange rs ρ → All SmallRange rs → Meets rs (blank N) ρ
+meets-blank : (N : ℕ) (rs : Ranges) (ρ : Values) → InRange rs ρ → Every SmallRange rs → Meets rs (blank N) ρ
 meets-blank N rs ρ h a u v hu hv = rw blank-far (omega (ints, in-range-small rs ρ h a u hu, in-range-small rs ρ h a v hv, +law (ρ u) far))
 
 meets-confine : (rs : Ranges) (ρ : Values) → ρ 0 ≡ pos 0 → (g : Grid) (s : ℕ) (ts : Ranges) → Within ρ s ts → Meets rs g ρ → Meets rs (confineAll g s ts) ρ
@@ -36,7 +38,7 @@ meets-confine rs ρ z g s (some r ∷ ts) w m =
     meets-confine rs ρ z (confine g s (some r)) (suc s) ts (w .2) (meets-tighten rs (tighten g 0 s (r .hi)) ρ s 0 (negℤ (r .lo)) (meets-tighten rs g ρ 0 s (r .hi) m up-fact) low-fact)
 
 -- values in range meet the facts of the ranges
-pub meets-start : (N : ℕ) (rs : Ranges) (ρ : Values) → InRange rs ρ → All SmallRange rs → Meets rs (start N rs) ρ
+pub meets-start : (N : ℕ) (rs : Ranges) (ρ : Values) → InRange rs ρ → Every SmallRange rs → Meets rs (start N rs) ρ
 meets-start N rs ρ h a = meets-confine rs ρ (h .at-zero) (blank N) 1 rs (h .within) (meets-blank N rs ρ h a)
 
 -- and they meet the fact of each decision that they agree with
@@ -51,13 +53,13 @@ meets-decide rs g ρ p false m e =
 
 -- ---- a closed walk over the formula's vertices is not below zero for them (T1)
 module _ (rs : Ranges) (g : Grid) (ρ : Values) (m : Meets rs g ρ) where
-  meets-from : (u : ℕ) (p : List ℕ) (t : ℕ) → T (present rs u) → All (λ v. T (present rs v)) p → T (present rs t) → ρ t ≤ℤ (ρ u +ℤ from (weight g) u p t)
+  meets-from : (u : ℕ) (p : List ℕ) (t : ℕ) → T (present rs u) → Every (λ v. T (present rs v)) p → T (present rs t) → ρ t ≤ℤ (ρ u +ℤ from (weight g) u p t)
   meets-from u [] t hu hp ht = m u t hu ht
   meets-from u (y ∷ p) t hu hp ht =
       let w = weight g u y in
       let r = from (weight g) y p t in
       omega (ints, m u y hu (hp .0), meets-from y p t (hp .0) (hp .1) ht, +law (ρ u) w, +law (ρ y) r, +law (ρ u) (w +ℤ r), +law w r)
 
-  pub meets-closed : (c : List ℕ) → All (λ v. T (present rs v)) c → ¬ (closed (weight g) c <ℤ pos 0)
+  pub meets-closed : (c : List ℕ) → Every (λ v. T (present rs v)) c → ¬ (closed (weight g) c <ℤ pos 0)
   meets-closed [] a h = omega ints
   meets-closed (v ∷ p) a h = omega (ints, meets-from v p v (a .0) (a .1) (a .0), +law (ρ v) (from (weight g) v p v))

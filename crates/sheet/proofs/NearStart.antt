@@ -17,10 +17,12 @@ use Rattle.grid.proofs.Grids.{tighten-le, tighten-sized, blank-sized, blank-far
 use Rattle.grid.proofs.Nears.{relax-closure, sat-round, tightened, blank-closure, sat-tighten}
 use Rattle.formula.specs.Program.{Values, Place}
 use Rattle.formula.specs.Vertices.{Within, Ranges}
+use Rattle.formula.proofs.Proper.{Nonempty, SmallRange}
+use Rattle.formula.proofs.Sizes.{billion}
+use Rattle.question.specs.Accepted.{Every}
 use Rattle.sheet.specs.Facts.{start, confineAll, taken, decide}
 use Rattle.sheet.specs.Fast.{nearConfineAll, nearStart}
 use Rattle.sheet.proofs.Holds.{confine-le}
-use Rattle.sheet.proofs.Proper.{All, billion, Nonempty, SmallRange}
 
 closure-confine : (N : ℕ) (x : Values) → x 0 ≡ pos 0 → 0 < N → (g : Grid) (near : Weights) (s : ℕ) (ts : Ranges) → s + length ts ≤ N → Within x s ts → Sized N g → Sat (weight g) N x → Closure N (weight g) near → Closure N (weight (confineAll g s ts)) (nearConfineAll near s ts)
 unfolding confineAll nearConfineAll
@@ -52,18 +54,18 @@ abbrev lows : Ranges → Values
 lows rs zero = pos 0
 lows rs (suc v) = lowOf (getD rs v none)
 
-lows-within : (x : Values) (s : ℕ) (ts : Ranges) → ((i v : ℕ) → v ≡ s + i → x v ≡ lowOf (getD ts i none)) → All Nonempty ts → Within x s ts
+lows-within : (x : Values) (s : ℕ) (ts : Ranges) → ((i v : ℕ) → v ≡ s + i → x v ≡ lowOf (getD ts i none)) → Every Nonempty ts → Within x s ts
 lows-within x s [] f a = tt
 lows-within x s (none ∷ ts) f a = lows-within x (suc s) ts (λ i v e. f (suc i) v (omega arith)) (a .1)
 lows-within x s (some r ∷ ts) f a = let e = f 0 s (omega arith) in (omega (ints, e), omega (ints, e, a .0), lows-within x (suc s) ts (λ i v d. f (suc i) v (omega arith)) (a .1))
 
-lows-small : (ts : Ranges) → All SmallRange ts → (i : ℕ) → (up (lowOf (getD ts i none)) ≤ billion) × (dn (lowOf (getD ts i none)) ≤ billion)
+lows-small : (ts : Ranges) → Every SmallRange ts → (i : ℕ) → (up (lowOf (getD ts i none)) ≤ billion) × (dn (lowOf (getD ts i none)) ≤ billion)
 lows-small [] a i = (omega arith, omega arith)
 lows-small (none ∷ ts) a zero = (omega arith, omega arith)
 lows-small (some r ∷ ts) a zero = (a .0 .2, a .0 .3)
 lows-small (t ∷ ts) a (suc i) = lows-small ts (a .1) i
 
-sat-blank : (N : ℕ) (rs : Ranges) → All SmallRange rs → Sat (weight (blank N)) N (lows rs)
+sat-blank : (N : ℕ) (rs : Ranges) → Every SmallRange rs → Sat (weight (blank N)) N (lows rs)
 unfolding Sat
 sat-blank N rs a u v hu hv = rw blank-far (omega (ints, small u, small v, +law (lows rs u) far))
   where
@@ -71,7 +73,7 @@ sat-blank N rs a u v hu hv = rw blank-far (omega (ints, small u, small v, +law (
     small zero = (omega arith, omega arith)
     small (suc v) = lows-small rs a v
 
-pub start-closure : (N : ℕ) (rs : Ranges) → length rs < N → All SmallRange rs → All Nonempty rs → Closure N (weight (start N rs)) (nearStart rs)
+pub start-closure : (N : ℕ) (rs : Ranges) → length rs < N → Every SmallRange rs → Every Nonempty rs → Closure N (weight (start N rs)) (nearStart rs)
 start-closure N rs l a b = closure-confine N (lows rs) refl (omega arith) (blank N) nearBlank 1 rs (omega arith) (lows-within (lows rs) 1 rs (λ i v e. let d : v ≡ suc i = omega arith in rw d refl) b) (blank-sized N) (sat-blank N rs a) (blank-closure N)
 
 pub start-far : (N : ℕ) (rs : Ranges) (u v : ℕ) → weight (start N rs) u v ≤ℤ far

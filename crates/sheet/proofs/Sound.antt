@@ -16,10 +16,11 @@ use Rattle.formula.specs.Known.{Three, fails, passes, open?, known}
 use Rattle.formula.specs.Program.{Values, test, Place, truth, places}
 use Rattle.formula.specs.Vertices.{InRange, Ranges, present}
 use Rattle.formula.proofs.Knows.{Agrees, Says, known-says}
+use Rattle.formula.proofs.Proper.{SmallRange}
+use Rattle.question.specs.Accepted.{Every}
 use Rattle.sheet.specs.Facts.{start, decide}
 use Rattle.sheet.specs.Tree.{more, Outcome, andThen, passed, refused, Vertices, got, lacking, vertices, falseNode, cycleEnd, node, check, checkTree}
 use Rattle.sheet.proofs.Meets.{Meets, meets-start, meets-decide, meets-closed}
-use Rattle.sheet.proofs.Proper.{All, SmallRange}
 
 abbrev pub Shows : Type 0 → Outcome → Type 0
 Shows A (passed o r) = A
@@ -48,7 +49,7 @@ pub snoc-lengths : (done : List Place) (p : Place) (ds : List Bool) (d : Bool) �
 snoc-lengths done p ds d l = simp length-append (omega arith)
 
 abbrev GotPresent : Ranges → Vertices → Type 0
-GotPresent rs (got c o r) = All (λ v. T (present rs v)) c
+GotPresent rs (got c o r) = Every (λ v. T (present rs v)) c
 GotPresent rs (lacking n o) = Unit {0}
 
 got-present : (rs : Ranges) (n at : ℕ) (bs : List ℕ) → GotPresent rs (vertices rs n at bs)
@@ -116,7 +117,7 @@ module _ (N : ℕ) (F : Formula) (ρ : Values) where
       halves rest false h ih = shows-then False (first rest) second (ih false h)
 
 -- a tree that passes shows that the formula fails on all values in range
-pub sound : (N : ℕ) (F : Formula) → All SmallRange (F .ranges) → (at : ℕ) (bs : List ℕ) (o : ℕ) (r : List ℕ) → checkTree N F at bs ≡ passed o r → (ρ : Values) → InRange (F .ranges) ρ → truth ρ (F .program) ≡ false
+pub sound : (N : ℕ) (F : Formula) → Every SmallRange (F .ranges) → (at : ℕ) (bs : List ℕ) (o : ℕ) (r : List ℕ) → checkTree N F at bs ≡ passed o r → (ρ : Values) → InRange (F .ranges) ρ → truth ρ (F .program) ≡ false
 sound N F small at bs o r e ρ h = rw e at (check-sound N F ρ (places (F .program)) [] [] (start N (F .ranges)) at bs refl refl (meets-start N (F .ranges) ρ h small) (none (places (F .program))))
   where
     none : (ps : List Place) → Agrees ρ ps []

@@ -13,7 +13,7 @@ use Rattle.formula.specs.Known.{known}
 use Rattle.formula.specs.Program.{Place}
 use Rattle.sheet.specs.Facts.{decide}
 use Rattle.sheet.specs.Fast.{sideOf, calmNode, fast}
-use Rattle.sheet.specs.Grow.{openAt, join, atNode, grow}
+use Rattle.sheet.specs.Grow.{join, openAt, atNode, grow}
 use Rattle.sheet.specs.Tree.{andThen, refused, falseNode, cycleNode, check}
 
 module _ (n : ℕ) (F : Formula) (ds : List Bool) (g : Grid) where

@@ -7,3 +7,4 @@ pub mod Sheet
 pub mod Answers
 pub mod Fast
 pub mod Room
+pub mod Demands

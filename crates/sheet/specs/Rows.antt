@@ -62,15 +62,11 @@ fieldAt j = 8 + 4 * j
 abbrev pub valueAt : List ℕ → ℕ → ℤ
 valueAt s j = int32 s (fieldAt j)
 
--- n values from field j on
-abbrev pub rowAt : List ℕ → ℕ → ℕ → Values
-rowAt s j n = tabulate n (λ c. valueAt s (j + c))
-
 abbrev pub firstRead : Question → List ℕ → Values
-firstRead q s = rowAt s 0 (width q)
+firstRead q s = tabulate (width q) (valueAt s)
 
 abbrev pub secondRead : Question → Formula → List ℕ → Values
-secondRead q F s = cond (F .pairs) (rowAt s (width q) (width q)) []
+secondRead q F s = cond (F .pairs) (tabulate (width q) (λ c. valueAt s (width q + c))) []
 
 -- what the vertices stand for
 abbrev pub readValues : Question → Formula → List ℕ → P.Values

@@ -95,10 +95,17 @@ abbrev pub checkBody : Question → ℕ → List ℕ → ℕ → Answer
 checkBody q a s zero = checkYes (formulas q a) s
 checkBody q a s (suc v) = checkNo q (formulas q a) s
 
+-- "Mark `VUS`"; "version u16 = 1"
+abbrev pub marked : List ℕ → Bool
+marked s = eqb (getD s 0 0) 86 && eqb (getD s 1 0) 85 && eqb (getD s 2 0) 83
+
+abbrev pub versioned : List ℕ → Bool
+versioned s = eqb (getD s 3 0 + 256 * getD s 4 0) 1
+
 unfoldable pub checkSheet : Question → ℕ → List ℕ → Answer
 checkSheet q a s =
-    field s 0 3 (eqb (getD s 0 0) 86 && eqb (getD s 1 0) 85 && eqb (getD s 2 0) 83) 12
-    (field s 3 2 (eqb (getD s 3 0 + 256 * getD s 4 0) 1) 13
+    field s 0 3 (marked s) 12
+    (field s 3 2 (versioned s) 13
     (field s 5 1 (eqb (getD s 5 0) a) 14
     (field s 6 1 (leb (getD s 6 0) 1) 14
     (checkBody q a s (getD s 6 0)))))

@@ -1,8 +1,8 @@
--- What a formula must be like for its sheet: vertices below N, ranges within a billion, places between its vertices with small constants.
+-- What the laws of trees ask of a formula over N vertex numbers; a proper formula has it.
 use Prim.Native.Nat.{ℕ, zero, suc, _+_, _≤_, _<_}
 use mathlib.Core.Path.{_≡_, refl, ap}
 use mathlib.Core.Bool.{Bool, true, false}
-use mathlib.Core.Option.{Option, none, some}
+use mathlib.Core.Option.{none, some}
 use mathlib.Core.List.{List, [], _∷_}
 use native.Mathlib.Omega.{arith}
 use lib.ListN.{length, getD}
@@ -10,40 +10,26 @@ use lib.Dec.{T}
 use lib.IntN.{ℤ, pos, negsuc}
 use lib.Signed.{_≤ℤ_}
 use Rattle.ints.proofs.Bridge.{up, dn, ints}
-use Rattle.meaning.specs.Contents.{Range}
-use Rattle.grid.specs.Grid.{least-weight}
+use Rattle.meaning.specs.Limits.{mostVertices}
 use Rattle.formula.specs.Formulas.{Formula}
-use Rattle.formula.specs.Program.{Values, Place, places}
+use Rattle.formula.specs.Program.{Values, places}
 use Rattle.formula.specs.Vertices.{Within, InRange, Ranges, isSome, present}
+use Rattle.formula.proofs.Proper.{SmallRange, Proper}
+use Rattle.formula.proofs.Sizes.{billion, SmallPlace}
+use Rattle.question.specs.Accepted.{Every}
 
-module _ {A : Type 0} where
-  abbrev pub All : (A → Type 0) → List A → Type 0
-  All P [] = Unit {0}
-  All P (a ∷ l) = P a × All P l
-
-abbrev pub billion : ℕ
-billion = 1000000000
-
-abbrev pub Nonempty : Option Range → Type 0
-Nonempty none = Unit {0}
-Nonempty (some r) = r .lo ≤ℤ r .hi
-
-abbrev pub SmallRange : Option Range → Type 0
-SmallRange none = Unit {0}
-SmallRange (some r) = (up (r .hi) ≤ billion) × (dn (r .hi) ≤ billion) × (up (r .lo) ≤ billion) × (dn (r .lo) ≤ billion)
-
--- a place of the formula: its vertices are, and its constant comes from at most three of the question's
-pub record SmallPlace (rs : Ranges) (p : Place) : Type 0 where
-  pub left-is : T (present rs (p .left))
-  pub right-is : T (present rs (p .right))
-  pub high : up (p .most) ≤ 6000000000
-  pub low : dn (p .most) ≤ least-weight
-
-pub record Proper (N : ℕ) (F : Formula) : Type 0 where
+pub record Fit (N : ℕ) (F : Formula) : Type 0 where
   pub some-vertex : length (F .ranges) < N
   pub few : N ≤ 25
-  pub ranges-small : All SmallRange (F .ranges)
-  pub places-small : All (SmallPlace (F .ranges)) (places (F .program))
+  pub ranges-small : Every SmallRange (F .ranges)
+  pub places-small : Every (SmallPlace (F .ranges)) (places (F .program))
+
+pub fit : (F : Formula) → Proper F → Fit mostVertices F
+fit F p = record { some-vertex = p .vertices; few = omega arith; ranges-small = p .ranges-small; places-small = p .places-small }
+
+pub fit-all : (Fs : List Formula) → Every Proper Fs → Every (Fit mostVertices) Fs
+fit-all [] a = tt
+fit-all (F ∷ Fs) a = (fit F (a .0), fit-all Fs (a .1))
 
 pub present-below : (rs : Ranges) (v : ℕ) → T (present rs v) → v ≤ length rs
 present-below rs zero t = omega arith
@@ -54,7 +40,7 @@ present-below rs (suc v) t = go rs v t
     go (r ∷ rs) zero t = omega arith
     go (r ∷ rs) (suc v) t = omega (arith, go rs v t)
 
-within-small : (ρ : Values) (s : ℕ) (rs : Ranges) → Within ρ s rs → All SmallRange rs → (v : ℕ) → T (isSome (getD rs v none)) → (i : ℕ) → i ≡ s + v → (up (ρ i) ≤ billion) × (dn (ρ i) ≤ billion)
+within-small : (ρ : Values) (s : ℕ) (rs : Ranges) → Within ρ s rs → Every SmallRange rs → (v : ℕ) → T (isSome (getD rs v none)) → (i : ℕ) → i ≡ s + v → (up (ρ i) ≤ billion) × (dn (ρ i) ≤ billion)
 within-small ρ s [] w a v t i e = absurd t
 within-small ρ s (none ∷ rs) w a zero t i e = absurd t
 within-small ρ s (some r ∷ rs) w a zero t i e = let d : i ≡ s = omega arith in rw d (small (ρ s) (r .lo) (r .hi) (w .0) (w .1) (a .0))
@@ -65,7 +51,7 @@ within-small ρ s (some r ∷ rs) w a zero t i e = let d : i ≡ s = omega arith
 within-small ρ s (none ∷ rs) w a (suc v) t i e = within-small ρ (suc s) rs w (a .1) v t i (omega arith)
 within-small ρ s (some r ∷ rs) w a (suc v) t i e = within-small ρ (suc s) rs (w .2) (a .1) v t i (omega arith)
 
-pub in-range-small : (rs : Ranges) (ρ : Values) → InRange rs ρ → All SmallRange rs → (v : ℕ) → T (present rs v) → (up (ρ v) ≤ billion) × (dn (ρ v) ≤ billion)
+pub in-range-small : (rs : Ranges) (ρ : Values) → InRange rs ρ → Every SmallRange rs → (v : ℕ) → T (present rs v) → (up (ρ v) ≤ billion) × (dn (ρ v) ≤ billion)
 in-range-small rs ρ h a zero t = omega (arith, ap up (h .at-zero), ap dn (h .at-zero))
 in-range-small rs ρ h a (suc v) t = within-small ρ 1 rs (h .within) a v t (suc v) (omega arith)
 
