@@ -11,3 +11,7 @@ pub mod Inserts
 pub mod Sizes
 pub mod Present
 pub mod Proper
+pub mod Emits
+pub mod Weights
+pub mod Shapes
+pub mod Sightings

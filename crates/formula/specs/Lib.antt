@@ -5,3 +5,5 @@ pub mod Known
 pub mod Vertices
 pub mod Formulas
 pub mod Cells
+pub mod Built
+pub mod Seen
