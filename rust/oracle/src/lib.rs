@@ -27,7 +27,7 @@ pub use refusal::Refusal;
 pub use sheet::Verdict;
 
 use refusal::refuse;
-use sheet::work;
+use sheet::{work, Worked};
 
 /// The verdict alone: asked 1 whether irrelevant, asked 2 whether computable.
 pub fn verdict(asked: u8, question: &[u8]) -> Result<Verdict, Refusal> {
@@ -41,6 +41,11 @@ pub fn verdict(asked: u8, question: &[u8]) -> Result<Verdict, Refusal> {
 pub fn write(asked: u8, question: &[u8], room: &mut [u8]) -> Result<(Verdict, usize), Refusal> {
     let question = accept(asked, question)?;
     let worked = work(&question, asked, room.len(), u64::MAX).expect("there is no limit on nodes");
+    fill(&worked, room)
+}
+
+/// Puts a sheet that is worked out into the room, by the same rule.
+pub fn fill(worked: &Worked, room: &mut [u8]) -> Result<(Verdict, usize), Refusal> {
     room.fill(0);
     if worked.length > room.len() {
         return refuse(21, 0);

@@ -2,7 +2,9 @@
 
 use oracle::examples::twelve;
 use oracle::question::Question;
+use oracle::sample::deepest;
 use oracle::sketch::Sketch;
+use oracle::trouble::trouble;
 use oracle::{check, encode, read, verdict, write, Refusal, Verdict};
 
 fn case(name: &str) -> Vec<u8> {
@@ -131,4 +133,19 @@ fn a_refused_question_leaves_the_room() {
         })
     );
     assert_eq!(room, [7; 40]);
+}
+
+#[test]
+fn a_path_of_120_decisions() {
+    let question = deepest();
+    let places = trouble(&question, 2)
+        .into_iter()
+        .map(|formula| formula.places.len());
+    assert_eq!(places.max(), Some(120));
+    let bytes = encode(&question);
+    let sheet = sheet(&bytes, 2);
+    let branches = sheet[7..]
+        .windows(120)
+        .any(|run| run.iter().all(|&node| node == 3));
+    assert!(branches && check(2, &bytes, &sheet) == Ok(Verdict::Yes));
 }

@@ -7,5 +7,5 @@ mod sheets;
 
 pub use chance::Chance;
 pub use damage::{damaged, misfit};
-pub use questions::{question, tiny};
+pub use questions::{deepest, question, sized, tiny};
 pub use sheets::other_sheet;

@@ -8,7 +8,18 @@ use std::ops::Range;
 pub fn question(chance: &mut Chance) -> Question {
     let widths = widths(chance);
     let columns = columns(chance, widths.iter().sum());
-    finish(chance, widths, columns, MOST_COMPARISONS)
+    let counts = [0, 1].map(|_| chance.below(MOST_COMPARISONS + 1));
+    finish(chance, widths, columns, counts)
+}
+
+/// A question over this many columns, with this many comparisons in each of its conditions.
+pub fn sized(chance: &mut Chance, count: usize, comparisons: usize) -> Question {
+    let widths = match count {
+        1 => vec![1],
+        _ => vec![count / 2, count - count / 2],
+    };
+    let columns = columns(chance, count);
+    finish(chance, widths, columns, [comparisons; 2])
 }
 
 /// A question over one or two tables, two or three columns and a few values, for which all contents
@@ -26,10 +37,36 @@ pub fn tiny(chance: &mut Chance) -> Question {
     }
     let shown = chance.below(columns.len());
     columns[shown].visible = true;
-    finish(chance, widths, columns, 3)
+    let counts = [0, 1].map(|_| chance.below(4));
+    finish(chance, widths, columns, counts)
 }
 
-fn finish(chance: &mut Chance, widths: Vec<usize>, columns: Vec<Column>, most: usize) -> Question {
+/// A question with a formula of 120 places, the most there can be, and a path through all of them:
+/// every comparison sets a column against itself.
+pub fn deepest() -> Question {
+    let column = Column {
+        lo: 0,
+        hi: 1,
+        visible: true,
+    };
+    let mut all = vec![Token::Compare(Op::Equal, 0, Side::Column(0, 0)); MOST_COMPARISONS];
+    all.extend([Token::And; MOST_COMPARISONS - 1]);
+    let modes = (0..MOST_COLUMNS).map(|column| Mode::Become(Side::Column(column, 0)));
+    Question {
+        widths: vec![MOST_COLUMNS],
+        changed: 0,
+        columns: vec![column; MOST_COLUMNS],
+        condition: all.clone(),
+        change: Change::Modify(all, modes.collect()),
+    }
+}
+
+fn finish(
+    chance: &mut Chance,
+    widths: Vec<usize>,
+    columns: Vec<Column>,
+    comparisons: [usize; 2],
+) -> Question {
     let changed = chance.below(widths.len());
     let mut question = Question {
         widths,
@@ -38,8 +75,13 @@ fn finish(chance: &mut Chance, widths: Vec<usize>, columns: Vec<Column>, most: u
         condition: Vec::new(),
         change: Change::Insert(Vec::new()),
     };
-    question.condition = condition(chance, &question.columns, 0..question.columns.len(), most);
-    question.change = change(chance, &question, most);
+    question.condition = condition(
+        chance,
+        &question.columns,
+        0..question.columns.len(),
+        comparisons[0],
+    );
+    question.change = change(chance, &question, comparisons[1]);
     question
 }
 
@@ -111,8 +153,12 @@ fn addition(chance: &mut Chance, from: Column, to: Column) -> i32 {
     }
 }
 
-fn condition(chance: &mut Chance, columns: &[Column], own: Range<usize>, most: usize) -> Condition {
-    let count = chance.below(most + 1);
+fn condition(
+    chance: &mut Chance,
+    columns: &[Column],
+    own: Range<usize>,
+    count: usize,
+) -> Condition {
     let mut tokens = Vec::new();
     let mut values = 0;
     let mut left = count;
@@ -147,7 +193,7 @@ fn side(chance: &mut Chance, columns: &[Column], own: &Range<usize>, against: us
     Side::Column(right, addition(chance, columns[right], columns[against]))
 }
 
-fn change(chance: &mut Chance, question: &Question, most: usize) -> Change {
+fn change(chance: &mut Chance, question: &Question, comparisons: usize) -> Change {
     let own = question.changed_columns();
     let columns = &question.columns;
     match chance.below(3) {
@@ -161,9 +207,9 @@ fn change(chance: &mut Chance, question: &Question, most: usize) -> Change {
             };
             Change::Insert((0..count).map(|_| row()).collect())
         }
-        1 => Change::Delete(condition(chance, columns, own, most)),
+        1 => Change::Delete(condition(chance, columns, own, comparisons)),
         _ => {
-            let rows = condition(chance, columns, own.clone(), most);
+            let rows = condition(chance, columns, own.clone(), comparisons);
             let modes = own.clone().map(|column| match chance.below(3) {
                 0 => Mode::Keep,
                 _ => Mode::Become(side(chance, columns, &own, column)),

@@ -1,0 +1,21 @@
+//! Holds the proved library, through its C interface, against the oracle.
+
+pub mod compare;
+pub mod library;
+pub mod load;
+pub mod measure;
+pub mod smt;
+
+/// The stack that the header promises to be plenty.
+const STACK: usize = 8 << 20;
+
+/// Runs on a thread with just that stack.
+pub fn on_promised_stack<T: Send>(run: impl FnOnce() -> T + Send) -> T {
+    std::thread::scope(|scope| {
+        let thread = std::thread::Builder::new().stack_size(STACK);
+        let running = thread.spawn_scoped(scope, run).expect("a thread");
+        running
+            .join()
+            .unwrap_or_else(|panic| std::panic::resume_unwind(panic))
+    })
+}
