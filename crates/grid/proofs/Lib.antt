@@ -9,3 +9,4 @@ pub mod Rows
 pub mod Sums
 pub mod Relaxed
 pub mod Round
+pub mod Bests

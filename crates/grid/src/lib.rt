@@ -1,12 +1,14 @@
 // Facts between 17 vertices: a grid of edge weights by value.
 ghost use mathlib.Core.Path.{_≡_};
-ghost use Prim.Native.Nat.{_<_, _≤_};
+ghost use Prim.Native.Nat.{_-_, _<_, _≤_};
 ghost use lib.IntN.{pos, _+ℤ_};
 ghost use lib.ListN.{length, getD};
+ghost use lib.Signed.{ltZ};
 ghost use Rattle.grid.specs.Walk.{Below, closed};
 ghost use Rattle.ints.proofs.Bridge.{minZ};
 ghost use Rattle.meaning.specs.Limits.{mostVertices};
-ghost use Rattle.grid.specs.Grid.{blank, weight, tighten, filled, tabled, wide, farN, Bounded, RowWithin, AllWithin};
+ghost use Rattle.grid.specs.Grid.{blank, row, weight, tighten, filled, tabled, wide, farN, Bounded, RowWithin, AllWithin};
+ghost use Rattle.grid.specs.Search.{least, first};
 ghost use Rattle.grid.specs.Near.{relax, nearBlank};
 
 // No fact at all: every edge is missing.
@@ -101,4 +103,91 @@ pub fn closing(g: [[i64; 17]; 17], vertices: &[u8]) -> i64
         at = next;
     }
     sum + g[at][first]
+}
+
+// The weights of the edges into s, from each vertex below n.
+fn column(g: [[i64; 17]; 17], n: usize, s: usize) -> [i64; 17]
+    requires { ⌜ (n ≤ mostVertices) × (s < n) ⌝ }
+    ensures { λ r. ⌜ r ≡ filled (λ v. weight g v s) n (row g s) ⌝ }
+{
+    let mut h = g[s];
+    for v in 0..n {
+        h[v] = g[v][s];
+    }
+    h
+}
+
+// The least sums of one edge, a row for each vertex that it goes to.
+fn single(g: [[i64; 17]; 17], n: usize) -> [[i64; 17]; 17]
+    requires { ⌜ n ≤ mostVertices ⌝ }
+    ensures { λ r. ⌜ r ≡ tabled (λ s v. weight g v s) n g ⌝ }
+{
+    let mut h = g;
+    for s in 0..n {
+        h[s] = column(g, n, s);
+    }
+    h
+}
+
+// The least sum of an edge to a vertex below n and the way on from there.
+fn least_sum(edges: [i64; 17], on: [i64; 17], n: usize) -> i64
+    requires { ⌜ (0 < n) × (n ≤ mostVertices) ⌝ }
+    requires { ⌜ RowWithin wide n edges ⌝ }
+    requires { ⌜ RowWithin wide n on ⌝ }
+    ensures { λ r. ⌜ r ≡ least (λ u. getD edges u (pos 0) +ℤ getD on u (pos 0)) (n - 1) ⌝ }
+{
+    let mut sum = edges[0] + on[0];
+    for u in 1..n {
+        let other = edges[u] + on[u];
+        sum = lesser(sum, other);
+    }
+    sum
+}
+
+// One edge more: from each vertex the least sum of an edge and the way on.
+fn longer(g: [[i64; 17]; 17], on: [i64; 17], n: usize) -> [i64; 17]
+    requires { ⌜ (0 < n) × (n ≤ mostVertices) ⌝ }
+    requires { ⌜ AllWithin farN n g ⌝ }
+    requires { ⌜ RowWithin wide n on ⌝ }
+    ensures { λ r. ⌜ r ≡ filled (λ v. least (λ u. weight g v u +ℤ getD on u (pos 0)) (n - 1)) n on ⌝ }
+{
+    let mut h = on;
+    for v in 0..n {
+        let edges = g[v];
+        let sum = least_sum(edges, on, n);
+        h[v] = sum;
+    }
+    h
+}
+
+// One edge more for every start.
+fn further(g: [[i64; 17]; 17], sums: [[i64; 17]; 17], n: usize) -> [[i64; 17]; 17]
+    requires { ⌜ (0 < n) × (n ≤ mostVertices) ⌝ }
+    requires { ⌜ AllWithin farN n g ⌝ }
+    requires { ⌜ AllWithin wide n sums ⌝ }
+    ensures { λ r. ⌜ r ≡ tabled (λ s v. least (λ u. weight g v u +ℤ weight sums s u) (n - 1)) n sums ⌝ }
+{
+    let mut h = sums;
+    for s in 0..n {
+        let on = sums[s];
+        let row = longer(g, on, n);
+        h[s] = row;
+    }
+    h
+}
+
+// The first vertex below n by which the walk can still close below zero, where sum is the way so far; n if there is none.
+fn first_closing(edges: [i64; 17], on: [i64; 17], n: usize, sum: i64) -> usize
+    requires { ⌜ n ≤ mostVertices ⌝ }
+    requires { ⌜ Bounded wide sum ⌝ }
+    requires { ⌜ RowWithin wide n edges ⌝ }
+    requires { ⌜ RowWithin wide n on ⌝ }
+    ensures { λ r. ⌜ r ≡ first (λ u. ltZ ((sum +ℤ getD edges u (pos 0)) +ℤ getD on u (pos 0)) (pos 0)) n ⌝ }
+{
+    for u in 0..n {
+        if sum + edges[u] + on[u] < 0 {
+            return u;
+        }
+    }
+    n
 }

@@ -1,0 +1,146 @@
+
+use mathlib.Core.Path.{_≡_, refl, sym, ap, _∙_}
+use mathlib.Core.Bool.{true, false}
+use mathlib.Core.List.{List}
+use Prim.Native.Nat.{ℕ, _+_, _-_, _≤_, _<_}
+use native.Mathlib.Omega.{arith}
+use borrow.Author.Needs.{needs}
+use borrow.Author.Count.{below-more}
+use lib.IntN.{ℤ, pos, _+ℤ_}
+use lib.ListN.{getD}
+use lib.Signed.{ltZ}
+use mir.Syntax.{w64}
+use mir.Val.{SFits, toZ, ofZ}
+use mir.Facts.{toZ-ofZ}
+use Rattle.ints.proofs.Bridge.{minZ}
+use Rattle.meaning.specs.Limits.{mostVertices}
+use Rattle.grid.specs.Grid.{row, weight, filled, tabled, wide, Bounded}
+use Rattle.grid.specs.Search.{least, first}
+use Rattle.grid.proofs.Rows.{filled-more, read, sized}
+use Rattle.grid.proofs.Sums.{exact-two, exact-three}
+use Rattle.grid.proofs.Bests.{least-more, first-at}
+use Rattle.grid.proofs.least_sum.Statement.{statement}
+use Rattle.grid.proofs.least_sum.Tie as tie
+use Rattle.grid.proofs.least_sum.Reads as reads
+use Rattle.grid.proofs.least_sum.Lts as lts
+use Rattle.grid.proofs.lesser.Reads as lesser-reads
+
+-- an edge to u and the way on from there
+abbrev onward : List ℤ → List ℤ → ℕ → ℤ
+onward edges on u = getD edges u (pos 0) +ℤ getD on u (pos 0)
+
+abbrev Inv-loop : tie.InvT-loop
+Inv-loop n edges on sum₀ u₀ sum u = (0 < u) × (u ≤ n) × (toZ w64 sum ≡ least (onward edges on) (u - 1))
+
+abbrev μ-loop : tie.MeasureT-loop
+μ-loop n edges on sum₀ u₀ sum u = n - u
+
+-- src/lib.rt:139:19
+array-copy-out-sum : tie.Need-array-copy-out-sum Inv-loop μ-loop
+array-copy-out-sum c = search needs
+
+-- src/lib.rt:139:30
+array-copy-out-sum-2 : tie.Need-array-copy-out-sum-2 Inv-loop μ-loop
+array-copy-out-sum-2 c = search needs
+
+-- the numbers that are read, and their sums
+first-edge : (c : tie.After-sum2 Inv-loop μ-loop) → SFits w64 (getD (c .before .before .args .t1) 0 (pos 0))
+first-edge c = record { sfits = c .before .sum .given }
+
+first-on : (c : tie.After-sum2 Inv-loop μ-loop) → SFits w64 (getD (c .before .before .args .t2) 0 (pos 0))
+first-on c = record { sfits = c .sum2 .given }
+
+first-fits : (c : tie.After-sum2 Inv-loop μ-loop) → SFits w64 (onward (c .before .before .args .t1) (c .before .before .args .t2) 0)
+first-fits c = let s = c .before .before in exact-two _ _ (s .pre .1 .0 .entry 0 (s .pre .0 .0)) (s .pre .1 .1 .entry 0 (s .pre .0 .0))
+
+other-edge : (c : tie.After-other2 Inv-loop μ-loop) → SFits w64 (getD (c .before .before .before .before .before .before .args .t1) (c .before .before .before .loop .u) (pos 0))
+other-edge c = record { sfits = c .before .other .given }
+
+other-on : (c : tie.After-other2 Inv-loop μ-loop) → SFits w64 (getD (c .before .before .before .before .before .before .args .t2) (c .before .before .before .loop .u) (pos 0))
+other-on c = record { sfits = c .other2 .given }
+
+other-fits : (c : tie.After-other2 Inv-loop μ-loop) → SFits w64 (onward (c .before .before .before .before .before .before .args .t1) (c .before .before .before .before .before .before .args .t2) (c .before .before .before .loop .u))
+other-fits c =
+    let s = c .before .before .before .before .before .before in
+    let h = c .before .before .loop-test .taken in
+    exact-two _ _ (s .pre .1 .0 .entry (c .before .before .before .loop .u) h) (s .pre .1 .1 .entry (c .before .before .before .loop .u) h)
+
+-- src/lib.rt:139:19
+add-sum : tie.Need-add-sum Inv-loop μ-loop
+add-sum c = simp (toZ-ofZ, first-edge c, first-on c) (first-fits c)
+
+-- src/lib.rt:140:5
+loop-holds : tie.Need-loop-holds Inv-loop μ-loop
+unfolding least
+loop-holds c = (search needs, c .before .before .pre .0 .0, simp (toZ-ofZ, first-edge c, first-on c, first-fits c))
+
+-- src/lib.rt:141:21
+mul-other : tie.Need-mul-other Inv-loop μ-loop
+mul-other c = search needs
+
+-- src/lib.rt:141:21
+array-copy-out-other : tie.Need-array-copy-out-other Inv-loop μ-loop
+array-copy-out-other c = search needs
+
+-- src/lib.rt:141:32
+mul-other-2 : tie.Need-mul-other-2 Inv-loop μ-loop
+mul-other-2 c = search needs
+
+-- src/lib.rt:141:32
+array-copy-out-other-2 : tie.Need-array-copy-out-other-2 Inv-loop μ-loop
+array-copy-out-other-2 c = search needs
+
+-- src/lib.rt:141:21
+add-other : tie.Need-add-other Inv-loop μ-loop
+add-other c = simp (toZ-ofZ, other-edge c, other-on c) (other-fits c)
+
+-- src/lib.rt:142:9
+lesser-requires : tie.Need-lesser-requires Inv-loop μ-loop
+lesser-requires c κs = search needs
+
+-- src/lib.rt:140:9
+add-u : tie.Need-add-u Inv-loop μ-loop
+add-u c = search needs
+
+-- src/lib.rt:140:5
+loop-less : tie.Need-loop-less Inv-loop μ-loop
+loop-less c = search needs
+
+-- src/lib.rt:140:5
+loop-again : tie.Need-loop-again Inv-loop μ-loop
+loop-again c =
+    let o = c .before in
+    let l = o .before .before .before .loop in
+    let s = o .before .before .before .before .before .before in
+    let new : c .lesser .result ≡ minZ (toZ w64 (l .sum)) (onward (s .args .t1) (s .args .t2) (l .u)) = simp (toZ-ofZ, other-edge o, other-on o, other-fits o) at (c .lesser .ensures) in
+    ( search needs
+    , omega (arith, o .before .before .loop-test .taken)
+    , toZ-ofZ (record { sfits = c .lesser .ok }) ∙ new ∙ ap (λ (z : ℤ). minZ z (onward (s .args .t1) (s .args .t2) (l .u))) (l .inv .2) ∙ sym (least-more (onward (s .args .t1) (s .args .t2)) (l .u) (l .inv .0)))
+
+-- src/lib.rt:133:1
+returns : tie.Need-returns Inv-loop μ-loop
+returns c =
+    let s = c .before .before .before .before in
+    let all : c .before .loop .u ≡ s .args .n = omega arith in
+    rw all at (c .before .loop .inv .2)
+
+pub least-sum-spec : {M : Type 1} → statement M
+least-sum-spec =
+    tie.close
+    (tie.spec
+    Inv-loop
+    μ-loop
+    array-copy-out-sum
+    array-copy-out-sum-2
+    add-sum
+    loop-holds
+    mul-other
+    array-copy-out-other
+    mul-other-2
+    array-copy-out-other-2
+    add-other
+    lesser-requires
+    add-u
+    loop-less
+    loop-again
+    returns)
