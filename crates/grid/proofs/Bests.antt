@@ -1,8 +1,7 @@
 -- The least sums by edge count, step by step, and how large they grow; and what a loop that stops at the first has found.
 use Prim.Native.Nat.{ℕ, zero, suc, _+_, _-_, _*_, _≤_, _<_}
-use mathlib.Core.Path.{_≡_, refl, sym, ap, ap₂, _∙_, subst}
-use mathlib.Core.Bool.{Bool, true, false}
-use mathlib.Core.List.{List}
+use mathlib.Core.Path.{_≡_, refl, sym, ap, ap₂, subst}
+use mathlib.Core.Bool.{Bool, true, false, cond}
 use native.Mathlib.Omega.{arith}
 use native.Mathlib.Decide.{decLt}
 use lib.Dec.{T}
@@ -12,7 +11,7 @@ use Rattle.ints.proofs.Bridge.{minZ}
 use Rattle.meaning.specs.Limits.{mostVertices}
 use Rattle.grid.specs.Grid.{Grid, row, weight, farN, wide, Bounded, RowWithin, AllWithin, Sized}
 use Rattle.grid.specs.Search.{least, first, best}
-use Rattle.grid.proofs.Searches.{First, first-unique, least-hit}
+use Rattle.grid.proofs.Searches.{first-unique, least-hit}
 use Rattle.grid.proofs.Rows.{read}
 use Rattle.grid.proofs.Sums.{bounded-more, bounded-plus}
 
@@ -33,6 +32,11 @@ first-at f n r h none hit = first-unique f n r (record { bound = h; pass = λ k.
   where
     after : (i : ℕ) → T (f i) → r ≤ i
     after i t = elim (decLt i r) [ yes k ↦ absurd (subst T (none i k) t) | no k ↦ omega arith ]
+
+pub first-same : (f g : ℕ → Bool) (n : ℕ) → ((i : ℕ) → i < n → f i ≡ g i) → first f n ≡ first g n
+unfolding first
+first-same f g zero h = refl
+first-same f g (suc n) h = ap₂ (λ b r. cond b zero (suc r)) (h 0 (omega arith)) (first-same (λ i. f (suc i)) (λ i. g (suc i)) n (λ i k. h (suc i) (omega arith)))
 
 -- ---- rows as they are read
 pub row-within : (b n : ℕ) (g : Grid) → Sized mostVertices g → n ≤ mostVertices → AllWithin b n g → b ≤ wide → (u : ℕ) → u < n → RowWithin wide n (row g u)

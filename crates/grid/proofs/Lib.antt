@@ -10,3 +10,7 @@ pub mod Sums
 pub mod Relaxed
 pub mod Round
 pub mod Bests
+pub mod Kept
+pub mod Firsts
+pub mod Traced
+pub mod Answers

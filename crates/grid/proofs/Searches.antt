@@ -85,7 +85,7 @@ module _ (w : ℕ → ℕ → ℤ) (n : ℕ) where
   greedy-length (suc k) s acc c = let u = first (test w n k s acc c) (suc n) in ap suc (greedy-length k s (acc +ℤ w c u) u)
 
   -- the vertex that the greedy walk goes to
-  step : (k s : ℕ) (acc : ℤ) (c : ℕ) → (acc +ℤ best w n (suc k) s c) <ℤ pos 0 → (first (test w n k s acc c) (suc n) < suc n) × (((acc +ℤ w c (first (test w n k s acc c) (suc n))) +ℤ best w n k s (first (test w n k s acc c) (suc n))) <ℤ pos 0)
+  pub step : (k s : ℕ) (acc : ℤ) (c : ℕ) → (acc +ℤ best w n (suc k) s c) <ℤ pos 0 → (first (test w n k s acc c) (suc n) < suc n) × (((acc +ℤ w c (first (test w n k s acc c) (suc n))) +ℤ best w n k s (first (test w n k s acc c) (suc n))) <ℤ pos 0)
   unfolding best test
   step k s acc c h =
       let m = least-hit (λ u. w c u +ℤ best w n k s u) n in
@@ -131,11 +131,11 @@ module _ (w : ℕ → ℕ → ℤ) (n : ℕ) where
   least-found v p hv hp l h = first-is (λ k. ltb (start w n k) (suc n)) (suc n) .before (length p) l (lt→ltb (start w n (length p)) (suc n) (omega (arith, seen v p hv hp h)))
 
   -- the first vertex is one, and its best closed walk is negative
-  start-ok : (k : ℕ) → start w n k < suc n → best w n k (start w n k) (start w n k) <ℤ pos 0
+  pub start-ok : (k : ℕ) → start w n k < suc n → best w n k (start w n k) (start w n k) <ℤ pos 0
   unfolding start
   start-ok k h = ltZ-yes (first-is (λ s. ltZ (best w n k s s) (pos 0)) (suc n) .pass h)
 
-  fewest-ok : fewest w n < suc n → start w n (fewest w n) < suc n
+  pub fewest-ok : fewest w n < suc n → start w n (fewest w n) < suc n
   unfolding fewest
   fewest-ok h = ltb→lt (start w n (fewest w n)) (suc n) (first-is (λ k. ltb (start w n k) (suc n)) (suc n) .pass h)
 

@@ -2,3 +2,4 @@ pub mod Walk
 pub mod Grid
 pub mod Search
 pub mod Near
+pub mod Found

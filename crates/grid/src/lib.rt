@@ -1,14 +1,16 @@
 // Facts between 17 vertices: a grid of edge weights by value.
 ghost use mathlib.Core.Path.{_≡_};
+ghost use mathlib.Core.List.{_∷_};
 ghost use Prim.Native.Nat.{_-_, _<_, _≤_};
 ghost use lib.IntN.{pos, _+ℤ_};
-ghost use lib.ListN.{length, getD};
-ghost use lib.Signed.{ltZ};
+ghost use lib.ListN.{length, getD, take};
+ghost use lib.Signed.{_<ℤ_, ltZ};
 ghost use Rattle.grid.specs.Walk.{Below, closed};
 ghost use Rattle.ints.proofs.Bridge.{minZ};
 ghost use Rattle.meaning.specs.Limits.{mostVertices};
 ghost use Rattle.grid.specs.Grid.{blank, row, weight, tighten, filled, tabled, wide, farN, Bounded, RowWithin, AllWithin};
-ghost use Rattle.grid.specs.Search.{least, first};
+ghost use Rattle.grid.specs.Search.{least, first, best, greedy, search};
+ghost use Rattle.grid.specs.Found.{cycleOf, Opens, Ways};
 ghost use Rattle.grid.specs.Near.{relax, nearBlank};
 
 // No fact at all: every edge is missing.
@@ -190,4 +192,97 @@ fn first_closing(edges: [i64; 17], on: [i64; 17], n: usize, sum: i64) -> usize
         }
     }
     n
+}
+
+// A found closed walk: how many vertices it has, and the first.
+struct Opening {
+    count: usize,
+    start: usize,
+}
+
+// The fewest vertices of a negative closed walk, and the first vertex that has one with so many; count 0 if there is none.
+fn shortest(g: [[i64; 17]; 17], n: usize) -> Opening
+    requires { ⌜ (0 < n) × (n ≤ mostVertices) ⌝ }
+    requires { ⌜ AllWithin farN n g ⌝ }
+    ensures { λ r. ⌜ Opens (weight g) (n - 1) (r .count) (r .start) ⌝ }
+{
+    let mut sums = single(g, n);
+    let mut count: usize = 0;
+    let mut start: usize = 0;
+    'search: for k in 0..n {
+        for s in 0..n {
+            if sums[s][s] < 0 {
+                count = k + 1;
+                start = s;
+                break 'search;
+            }
+        }
+        sums = further(g, sums, n);
+    }
+    Opening { count, start }
+}
+
+// The least sums of the walks back to s, row by row one edge more.
+fn ways(g: [[i64; 17]; 17], n: usize, s: usize, count: usize) -> [[i64; 17]; 17]
+    requires { ⌜ (0 < n) × (n ≤ mostVertices) × (s < n) × (0 < count) × (count ≤ n) ⌝ }
+    requires { ⌜ AllWithin farN n g ⌝ }
+    ensures { λ r. ⌜ Ways g n s count r ⌝ }
+{
+    let mut h = g;
+    let first = column(g, n, s);
+    h[0] = first;
+    for j in 1..count {
+        let on = h[j - 1];
+        let row = longer(g, on, n);
+        h[j] = row;
+    }
+    h
+}
+
+// A closed walk: its vertices are the first count of the list; count 0 stands for none.
+pub struct Cycle {
+    pub count: usize,
+    pub vertices: [u8; 17],
+}
+
+// The least list of count vertices that starts at start and closes below zero.
+fn trace(g: [[i64; 17]; 17], ways: [[i64; 17]; 17], n: usize, start: usize, count: usize) -> Cycle
+    requires { ⌜ (0 < n) × (n ≤ mostVertices) × (start < n) × (0 < count) × (count ≤ n) ⌝ }
+    requires { ⌜ AllWithin farN n g ⌝ }
+    requires { ⌜ Ways g n start count ways ⌝ }
+    requires { ⌜ best (weight g) (n - 1) (count - 1) start start <ℤ pos 0 ⌝ }
+    ensures { λ r. ⌜ (r .count ≡ count) × (take count (r .vertices) ≡ start ∷ greedy (weight g) (n - 1) (count - 1) start (pos 0) start) ⌝ }
+{
+    let mut vertices = [0u8; 17];
+    vertices[0] = start as u8;
+    let mut at = start;
+    let mut sum: i64 = 0;
+    for i in 1..count {
+        let edges = g[at];
+        let on = ways[count - 1 - i];
+        let next = first_closing(edges, on, n, sum);
+        sum = sum + edges[next];
+        vertices[i] = next as u8;
+        at = next;
+    }
+    Cycle { count, vertices }
+}
+
+// The negative closed walk among the vertices below n with the fewest edges, then the least vertex list.
+pub fn search(g: [[i64; 17]; 17], n: usize) -> Cycle
+    requires { ⌜ (0 < n) × (n ≤ mostVertices) ⌝ }
+    requires { ⌜ AllWithin farN n g ⌝ }
+    ensures { λ r. ⌜ cycleOf r ≡ search (weight g) (n - 1) ⌝ }
+{
+    let opening = shortest(g, n);
+    let count = opening.count;
+    let start = opening.start;
+    if count == 0 {
+        return Cycle {
+            count: 0,
+            vertices: [0; 17],
+        };
+    }
+    let back = ways(g, n, start, count);
+    trace(g, back, n, start, count)
 }

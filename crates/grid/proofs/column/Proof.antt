@@ -1,22 +1,11 @@
-use mathlib.Core.Path.{_≡_, refl, sym, ap, _∙_}
-use mathlib.Core.Bool.{true, false}
-use Prim.Native.Nat.{ℕ, _+_, _-_, _≤_, _<_}
+use mathlib.Core.Path.{_≡_, refl, _∙_}
+use Prim.Native.Nat.{_-_, _≤_}
 use native.Mathlib.Omega.{arith}
 use borrow.Author.Needs.{needs}
-use borrow.Author.Count.{below-more}
-use lib.IntN.{ℤ, pos, _+ℤ_}
-use lib.ListN.{getD}
-use lib.Signed.{ltZ}
-use mir.Syntax.{w64}
-use mir.Val.{SFits, toZ, ofZ}
 use mir.Facts.{toZ-ofZ}
-use Rattle.ints.proofs.Bridge.{minZ}
 use Rattle.meaning.specs.Limits.{mostVertices}
-use Rattle.grid.specs.Grid.{row, weight, filled, tabled, wide, Bounded}
-use Rattle.grid.specs.Search.{least, first}
+use Rattle.grid.specs.Grid.{row, weight, filled}
 use Rattle.grid.proofs.Rows.{filled-more, read, sized}
-use Rattle.grid.proofs.Sums.{exact-two, exact-three}
-use Rattle.grid.proofs.Bests.{least-more, first-at}
 use Rattle.grid.proofs.column.Statement.{statement}
 use Rattle.grid.proofs.column.Tie as tie
 use Rattle.grid.proofs.column.Reads as reads
@@ -77,10 +66,11 @@ loop-less c = search needs
 loop-again : tie.Need-loop-again Inv-loop μ-loop
 loop-again c =
     let l = c .before .before .loop in
-    let s = c .before .before .before .before in
-    ( search needs
-    , filled-more _ (l .v) (row (s .args .t1) (s .args .s)) (l .h) _ (l .inv .1)
-    (toZ-ofZ (record { sfits = c .h2 .given }) ∙ read mostVertices (s .args .t1) (l .v) (s .args .s) (sized mostVertices (s .args .t1) _ (s .good .0)) (omega (arith, s .pre, c .before .loop-test .taken)) (omega (arith, s .pre))))
+    let s = c .before .before .before .before in (
+      search needs,
+      filled-more _ (l .v) (row (s .args .t1) (s .args .s)) (l .h) _ (l .inv .1)
+          (toZ-ofZ (record { sfits = c .h2 .given }) ∙ read mostVertices (s .args .t1) (l .v) (s .args .s) (sized mostVertices (s .args .t1) _ (s .good .0)) (omega (arith, s .pre, c .before .loop-test .taken)) (omega (arith, s .pre))),
+    )
 
 -- src/lib.rt:109:1
 returns : tie.Need-returns Inv-loop μ-loop

@@ -1,8 +1,7 @@
-
-use mathlib.Core.Path.{_≡_, refl, sym, ap, _∙_}
+use mathlib.Core.Path.{_≡_}
 use mathlib.Core.Bool.{Bool, true, false}
 use mathlib.Core.List.{List}
-use Prim.Native.Nat.{ℕ, _+_, _-_, _≤_, _<_}
+use Prim.Native.Nat.{ℕ, _-_, _≤_, _<_}
 use native.Mathlib.Omega.{arith}
 use borrow.Author.Needs.{needs}
 use borrow.Author.Count.{below-more}
@@ -12,13 +11,9 @@ use lib.Signed.{ltZ}
 use mir.Syntax.{w64}
 use mir.Val.{SFits, toZ, ofZ}
 use mir.Facts.{toZ-ofZ}
-use Rattle.ints.proofs.Bridge.{minZ}
-use Rattle.meaning.specs.Limits.{mostVertices}
-use Rattle.grid.specs.Grid.{row, weight, filled, tabled, wide, Bounded}
-use Rattle.grid.specs.Search.{least, first}
-use Rattle.grid.proofs.Rows.{filled-more, read, sized}
+use Rattle.grid.proofs.Rows.{read}
 use Rattle.grid.proofs.Sums.{exact-two, exact-three}
-use Rattle.grid.proofs.Bests.{least-more, first-at}
+use Rattle.grid.proofs.Bests.{first-at}
 use Rattle.grid.proofs.first_closing.Statement.{statement}
 use Rattle.grid.proofs.first_closing.Tie as tie
 use Rattle.grid.proofs.first_closing.Reads as reads
@@ -99,9 +94,10 @@ loop-again : tie.Need-loop-again Inv-loop μ-loop
 loop-again c =
     let l = c .before .before .before .before .loop in
     let s = c .before .before .before .before .before in
-    let t : closes (s .args .t1) (s .args .t2) (s .args .sum) (l .u) ≡ false = simp (toZ-ofZ, s .fits .sum, edge-fits (c .before .before), on-fits (c .before), two-fits (c .before .before), three-fits (c .before)) at (c .if1 .left) in
-    ( omega (arith, c .before .before .before .loop-test .taken)
-    , below-more (λ (i : ℕ). closes (s .args .t1) (s .args .t2) (toZ w64 (ofZ w64 (s .args .sum))) i ≡ false) (l .u) (l .inv .1) (simp (toZ-ofZ, s .fits .sum) t))
+    let t : closes (s .args .t1) (s .args .t2) (s .args .sum) (l .u) ≡ false = simp (toZ-ofZ, s .fits .sum, edge-fits (c .before .before), on-fits (c .before), two-fits (c .before .before), three-fits (c .before)) at (c .if1 .left) in (
+      omega (arith, c .before .before .before .loop-test .taken),
+      below-more (λ (i : ℕ). closes (s .args .t1) (s .args .t2) (toZ w64 (ofZ w64 (s .args .sum))) i ≡ false) (l .u) (l .inv .1) (simp (toZ-ofZ, s .fits .sum) t),
+    )
 
 -- src/lib.rt:180:1
 returns-2 : tie.Need-returns-2 Inv-loop μ-loop

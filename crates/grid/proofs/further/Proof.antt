@@ -1,9 +1,8 @@
-use mathlib.Core.Path.{_≡_, refl, sym, ap, _∙_}
-use Prim.Native.Nat.{ℕ, _+_, _-_, _≤_, _<_}
+use mathlib.Core.Path.{_≡_, refl, _∙_}
+use Prim.Native.Nat.{_-_, _≤_, _<_}
 use native.Mathlib.Omega.{arith}
 use borrow.Author.Needs.{needs}
-use lib.IntN.{ℤ, pos, _+ℤ_}
-use lib.ListN.{getD}
+use lib.IntN.{ℤ, _+ℤ_}
 use Rattle.meaning.specs.Limits.{mostVertices}
 use Rattle.grid.specs.Grid.{wide, row, weight, filled, tabled}
 use Rattle.grid.specs.Search.{least}
@@ -62,10 +61,11 @@ loop-again : tie.Need-loop-again Inv-loop μ-loop
 loop-again c =
     let l = c .before .before .before .loop in
     let z = c .before .before .before .before in
-    let s : l .s < z .args .n = c .before .before .loop-test .taken in
-    ( omega arith
-    , filled-more _ (l .s) (z .args .t2) (l .h) _ (l .inv .1)
-    (c .longer .ensures ∙ filled-same _ _ (z .args .n) (row (z .args .t2) (l .s)) (λ v h. least-onward (z .args .n) (z .args .t2) (weight (z .args .g)) (sized mostVertices (z .args .t2) _ (z .good .1 .0)) (z .pre .0) (l .s) v s)))
+    let s : l .s < z .args .n = c .before .before .loop-test .taken in (
+      omega arith,
+      filled-more _ (l .s) (z .args .t2) (l .h) _ (l .inv .1)
+          (c .longer .ensures ∙ filled-same _ _ (z .args .n) (row (z .args .t2) (l .s)) (λ v h. least-onward (z .args .n) (z .args .t2) (weight (z .args .g)) (sized mostVertices (z .args .t2) _ (z .good .1 .0)) (z .pre .0) (l .s) v s)),
+    )
 
 -- src/lib.rt:164:1
 returns : tie.Need-returns Inv-loop μ-loop

@@ -1,24 +1,18 @@
-
-use mathlib.Core.Path.{_≡_, refl, sym, ap, _∙_}
-use mathlib.Core.Bool.{true, false}
+use mathlib.Core.Path.{_≡_, sym, ap, _∙_}
 use mathlib.Core.List.{List}
-use Prim.Native.Nat.{ℕ, _+_, _-_, _≤_, _<_}
+use Prim.Native.Nat.{ℕ, _-_, _≤_, _<_}
 use native.Mathlib.Omega.{arith}
 use borrow.Author.Needs.{needs}
-use borrow.Author.Count.{below-more}
 use lib.IntN.{ℤ, pos, _+ℤ_}
 use lib.ListN.{getD}
-use lib.Signed.{ltZ}
 use mir.Syntax.{w64}
-use mir.Val.{SFits, toZ, ofZ}
+use mir.Val.{SFits, toZ}
 use mir.Facts.{toZ-ofZ}
 use Rattle.ints.proofs.Bridge.{minZ}
-use Rattle.meaning.specs.Limits.{mostVertices}
-use Rattle.grid.specs.Grid.{row, weight, filled, tabled, wide, Bounded}
-use Rattle.grid.specs.Search.{least, first}
-use Rattle.grid.proofs.Rows.{filled-more, read, sized}
-use Rattle.grid.proofs.Sums.{exact-two, exact-three}
-use Rattle.grid.proofs.Bests.{least-more, first-at}
+use Rattle.grid.specs.Search.{least}
+use Rattle.grid.proofs.Rows.{read}
+use Rattle.grid.proofs.Sums.{exact-two}
+use Rattle.grid.proofs.Bests.{least-more}
 use Rattle.grid.proofs.least_sum.Statement.{statement}
 use Rattle.grid.proofs.least_sum.Tie as tie
 use Rattle.grid.proofs.least_sum.Reads as reads
@@ -112,10 +106,11 @@ loop-again c =
     let o = c .before in
     let l = o .before .before .before .loop in
     let s = o .before .before .before .before .before .before in
-    let new : c .lesser .result ≡ minZ (toZ w64 (l .sum)) (onward (s .args .t1) (s .args .t2) (l .u)) = simp (toZ-ofZ, other-edge o, other-on o, other-fits o) at (c .lesser .ensures) in
-    ( search needs
-    , omega (arith, o .before .before .loop-test .taken)
-    , toZ-ofZ (record { sfits = c .lesser .ok }) ∙ new ∙ ap (λ (z : ℤ). minZ z (onward (s .args .t1) (s .args .t2) (l .u))) (l .inv .2) ∙ sym (least-more (onward (s .args .t1) (s .args .t2)) (l .u) (l .inv .0)))
+    let new : c .lesser .result ≡ minZ (toZ w64 (l .sum)) (onward (s .args .t1) (s .args .t2) (l .u)) = simp (toZ-ofZ, other-edge o, other-on o, other-fits o) at (c .lesser .ensures) in (
+      search needs,
+      omega (arith, o .before .before .loop-test .taken),
+      toZ-ofZ (record { sfits = c .lesser .ok }) ∙ new ∙ ap (λ (z : ℤ). minZ z (onward (s .args .t1) (s .args .t2) (l .u))) (l .inv .2) ∙ sym (least-more (onward (s .args .t1) (s .args .t2)) (l .u) (l .inv .0)),
+    )
 
 -- src/lib.rt:133:1
 returns : tie.Need-returns Inv-loop μ-loop

@@ -1,12 +1,12 @@
-use mathlib.Core.Path.{_≡_, refl, sym, ap, _∙_}
-use Prim.Native.Nat.{ℕ, _+_, _-_, _≤_, _<_}
+use mathlib.Core.Path.{_≡_, refl, _∙_}
+use Prim.Native.Nat.{_-_, _≤_, _<_}
 use native.Mathlib.Omega.{arith}
 use borrow.Author.Needs.{needs}
 use lib.IntN.{ℤ, pos, _+ℤ_}
 use lib.ListN.{getD}
 use mir.Facts.{toZ-ofZ}
 use Rattle.meaning.specs.Limits.{mostVertices}
-use Rattle.grid.specs.Grid.{farN, row, weight, filled, tabled}
+use Rattle.grid.specs.Grid.{farN, weight, filled}
 use Rattle.grid.specs.Search.{least}
 use Rattle.grid.proofs.Rows.{filled-more, sized}
 use Rattle.grid.proofs.Bests.{row-within, least-edges}
@@ -63,10 +63,11 @@ loop-again : tie.Need-loop-again Inv-loop μ-loop
 loop-again c =
     let l = c .before .before .before .loop in
     let s = c .before .before .before .before in
-    let v : l .v < s .args .n = c .before .before .loop-test .taken in
-    ( omega arith
-    , filled-more _ (l .v) (s .args .on) (l .h) _ (l .inv .1)
-    (toZ-ofZ (record { sfits = c .least-sum .ok }) ∙ c .least-sum .ensures ∙ least-edges (s .args .n) (s .args .t1) (λ u. getD (s .args .on) u (pos 0)) (sized mostVertices (s .args .t1) _ (s .good .0)) (s .pre .0) (l .v) v))
+    let v : l .v < s .args .n = c .before .before .loop-test .taken in (
+      omega arith,
+      filled-more _ (l .v) (s .args .on) (l .h) _ (l .inv .1)
+          (toZ-ofZ (record { sfits = c .least-sum .ok }) ∙ c .least-sum .ensures ∙ least-edges (s .args .n) (s .args .t1) (λ u. getD (s .args .on) u (pos 0)) (sized mostVertices (s .args .t1) _ (s .good .0)) (s .pre .0) (l .v) v),
+    )
 
 -- src/lib.rt:148:1
 returns : tie.Need-returns Inv-loop μ-loop

@@ -1,15 +1,9 @@
-use mathlib.Core.Path.{_≡_, refl, sym, ap, _∙_}
-use Prim.Native.Nat.{ℕ, _+_, _-_, _≤_, _<_}
+use mathlib.Core.Path.{_≡_, refl}
+use Prim.Native.Nat.{_-_, _≤_}
 use native.Mathlib.Omega.{arith}
 use borrow.Author.Needs.{needs}
-use lib.IntN.{ℤ, pos, _+ℤ_}
-use lib.ListN.{getD}
-use mir.Facts.{toZ-ofZ}
-use Rattle.meaning.specs.Limits.{mostVertices}
-use Rattle.grid.specs.Grid.{farN, row, weight, filled, tabled}
-use Rattle.grid.specs.Search.{least}
-use Rattle.grid.proofs.Rows.{filled-more, sized}
-use Rattle.grid.proofs.Bests.{row-within, least-edges}
+use Rattle.grid.specs.Grid.{row, weight, filled, tabled}
+use Rattle.grid.proofs.Rows.{filled-more}
 use Rattle.grid.proofs.single.Statement.{statement}
 use Rattle.grid.proofs.single.Tie as tie
 use Rattle.grid.proofs.single.Reads as reads

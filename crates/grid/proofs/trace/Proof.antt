@@ -1,0 +1,183 @@
+use mathlib.Core.Path.{_≡_, refl, ap, _∙_}
+use Prim.Native.Nat.{_+_, _-_, _*_, _≤_, _<_}
+use native.Mathlib.Omega.{arith}
+use borrow.Author.Needs.{needs}
+use lib.IntN.{ℤ, pos, _+ℤ_}
+use lib.ListN.{getD, replicate}
+use mir.Syntax.{w64}
+use mir.Val.{SFits, toZ, ofZ}
+use mir.Facts.{toZ-ofZ}
+use Rattle.meaning.specs.Limits.{mostVertices}
+use Rattle.grid.specs.Grid.{row, weight, farN, wide}
+use Rattle.grid.proofs.Rows.{read, sized}
+use Rattle.grid.proofs.Kept.{way-within}
+use Rattle.grid.proofs.Bests.{row-within}
+use Rattle.grid.proofs.Sums.{bounded-more, exact-wide}
+use Rattle.grid.proofs.Traced.{Traced, traced-first, next-below, next-small, traced-next, traced-last}
+use Rattle.grid.proofs.trace.Statement.{statement}
+use Rattle.grid.proofs.trace.Tie as tie
+use Rattle.grid.proofs.trace.Reads as reads
+use Rattle.grid.proofs.trace.Lts as lts
+use Rattle.grid.proofs.first_closing.Reads as first-closing-reads
+
+abbrev Inv-loop : tie.InvT-loop
+Inv-loop n start count g ways vertices₀ at₀ sum₀ i₀ vertices at sum i = (0 < i) × (i ≤ count) × Traced g n start count i vertices at (toZ w64 sum)
+
+abbrev μ-loop : tie.MeasureT-loop
+μ-loop n start count g ways vertices₀ at₀ sum₀ i₀ vertices at sum i = count - i
+
+-- src/lib.rt:257:19
+cast-vertices : tie.Need-cast-vertices Inv-loop μ-loop
+cast-vertices c = omega (arith, c .pre .0)
+
+-- src/lib.rt:257:5
+array-write-vertices : tie.Need-array-write-vertices Inv-loop μ-loop
+array-write-vertices c = search needs
+
+-- src/lib.rt:260:5
+loop-holds : tie.Need-loop-holds Inv-loop μ-loop
+loop-holds c =
+    let z = c in
+    (search needs, z .pre .0 .3, traced-first (z .args .t1) (z .args .n) (z .args .start) (z .args .count) (z .pre .0) (z .pre .1 .0) (replicate mostVertices 0) refl (z .pre .1 .1 .1))
+
+-- src/lib.rt:261:21
+mul-edges : tie.Need-mul-edges Inv-loop μ-loop
+mul-edges c = search needs
+
+-- src/lib.rt:261:21
+array-copy-out-edges : tie.Need-array-copy-out-edges Inv-loop μ-loop
+array-copy-out-edges c = search needs
+
+-- src/lib.rt:262:23
+sub-on : tie.Need-sub-on Inv-loop μ-loop
+sub-on c = search needs
+
+-- src/lib.rt:262:23
+sub-on-2 : tie.Need-sub-on-2 Inv-loop μ-loop
+sub-on-2 c = search needs
+
+-- src/lib.rt:262:18
+mul-on : tie.Need-mul-on Inv-loop μ-loop
+mul-on c = search needs
+
+-- src/lib.rt:262:18
+array-copy-out-on : tie.Need-array-copy-out-on Inv-loop μ-loop
+array-copy-out-on c = search needs
+
+-- src/lib.rt:263:13
+first-closing-requires : tie.Need-first-closing-requires Inv-loop μ-loop
+first-closing-requires c κs =
+    let l = c .before .before .before .loop in
+    let z = c .before .before .before .before in
+    let hn : (0 < z .args .n) × (z .args .n ≤ mostVertices) = (z .pre .0 .0, z .pre .0 .1) in (
+      z .pre .0 .1,
+      (
+        bounded-more (l .i * farN) wide (toZ w64 (l .sum)) (omega (arith, z .pre .0)) (l .inv .2 .small),
+        (
+          row-within farN (z .args .n) (z .args .t1) (sized mostVertices (z .args .t1) _ (z .good .0)) (z .pre .0 .1) (z .pre .1 .0) (omega arith) (l .at) (l .inv .2 .here),
+          way-within (z .args .t1) (z .args .n) hn (z .pre .1 .0) (z .args .start) (z .args .count) (z .args .t2) (z .pre .0 .2) (omega (arith, z .pre .0)) (z .pre .1 .1 .0) (z .args .count - 1 - l .i) (omega (arith, c .before .before .loop-test .taken)),
+        ),
+      ),
+    )
+
+-- the next vertex is one
+below : (c : tie.After-first-closing Inv-loop μ-loop) → c .first-closing .result < mostVertices
+below c =
+    let l = c .before .before .before .before .loop in
+    let z = c .before .before .before .before .before in
+    let u : c .first-closing .result < z .args .n = next-below (z .args .t1) (z .args .n) (z .args .start) (z .args .count) (z .pre .0) (z .pre .1 .0) (z .args .t2) (sized mostVertices (z .args .t1) _ (z .good .0)) (z .pre .1 .1 .0) (l .i) (c .before .before .before .loop-test .taken) (l .vertices) (l .at) (toZ w64 (l .sum)) (l .inv .2) (c .first-closing .result) (c .first-closing .ensures) in
+    omega (arith, z .pre .0)
+
+-- src/lib.rt:264:21
+mul-sum : tie.Need-mul-sum Inv-loop μ-loop
+mul-sum c = omega (arith, below c)
+
+-- src/lib.rt:264:21
+array-copy-out-sum : tie.Need-array-copy-out-sum Inv-loop μ-loop
+array-copy-out-sum c = omega (arith, below c)
+
+-- the way so far, with the edge to it
+added : (c : tie.After-sum Inv-loop μ-loop) →
+    let l = c .before .before .before .before .before .loop in
+    let a = c .before .before .before .before .before .before .args in
+    toZ w64 (l .sum) +ℤ toZ w64 (ofZ w64 (getD (row (a .t1) (l .at)) (c .before .first-closing .result) (pos 0)))
+    ≡ toZ w64 (l .sum) +ℤ weight (a .t1) (l .at) (c .before .first-closing .result)
+added c =
+    let l = c .before .before .before .before .before .loop in
+    let z = c .before .before .before .before .before .before in
+    ap (λ (y : ℤ). toZ w64 (l .sum) +ℤ y)
+    (toZ-ofZ (record { sfits = c .sum .given })
+    ∙ read mostVertices (z .args .t1) (l .at) _ (sized mostVertices (z .args .t1) _ (z .good .0)) (omega (arith, l .inv .2 .here, z .pre .0)) (below (c .before)))
+
+exact : (c : tie.After-sum Inv-loop μ-loop) →
+    let l = c .before .before .before .before .before .loop in
+    let a = c .before .before .before .before .before .before .args in
+    SFits w64 (toZ w64 (l .sum) +ℤ weight (a .t1) (l .at) (c .before .first-closing .result))
+exact c =
+    let l = c .before .before .before .before .before .loop in
+    let z = c .before .before .before .before .before .before in
+    exact-wide _ (bounded-more ((l .i + 1) * farN) wide _ (omega (arith, z .pre .0, c .before .before .before .before .loop-test .taken)) (next-small (z .args .t1) (z .args .n) (z .args .start) (z .args .count) (z .pre .0) (z .pre .1 .0) (z .args .t2) (sized mostVertices (z .args .t1) _ (z .good .0)) (z .pre .1 .1 .0) (l .i) (c .before .before .before .before .loop-test .taken) (l .vertices) (l .at) (toZ w64 (l .sum)) (l .inv .2) (c .before .first-closing .result) (c .before .first-closing .ensures)))
+
+-- src/lib.rt:264:15
+add-sum : tie.Need-add-sum Inv-loop μ-loop
+add-sum c = rw (added c) (exact c)
+
+-- src/lib.rt:265:23
+cast-vertices-2 : tie.Need-cast-vertices-2 Inv-loop μ-loop
+cast-vertices-2 c = omega (arith, below (c .before), c .before .before .before .before .before .before .pre .0)
+
+-- src/lib.rt:265:9
+array-write-vertices-2 : tie.Need-array-write-vertices-2 Inv-loop μ-loop
+array-write-vertices-2 c = omega (arith, c .before .before .before .before .loop-test .taken, c .before .before .before .before .before .before .pre .0)
+
+-- src/lib.rt:260:9
+add-i : tie.Need-add-i Inv-loop μ-loop
+add-i c = search needs
+
+-- src/lib.rt:260:5
+loop-less : tie.Need-loop-less Inv-loop μ-loop
+loop-less c = search needs
+
+-- src/lib.rt:260:5
+loop-again : tie.Need-loop-again Inv-loop μ-loop
+loop-again c =
+    let l = c .before .before .before .before .before .loop in
+    let z = c .before .before .before .before .before .before in (
+      search needs,
+      omega (arith, c .before .before .before .before .loop-test .taken),
+      rw (added c, toZ-ofZ (exact c)) (traced-next (z .args .t1) (z .args .n) (z .args .start) (z .args .count) (z .pre .0) (z .pre .1 .0) (z .args .t2) (sized mostVertices (z .args .t1) _ (z .good .0)) (z .pre .1 .1 .0) (l .i) (c .before .before .before .before .loop-test .taken) (l .vertices) (l .at) (toZ w64 (l .sum)) (l .inv .2) (c .before .first-closing .result) (c .before .first-closing .ensures)),
+    )
+
+-- src/lib.rt:249:1
+returns : tie.Need-returns Inv-loop μ-loop
+returns c =
+    let l = c .before .loop in
+    let z = c .before .before in
+    let all : l .i ≡ z .args .count = omega arith in
+    (refl, traced-last (z .args .t1) (z .args .n) (z .args .start) (z .args .count) (z .pre .0) (z .pre .1 .0) (l .vertices) (l .at) (toZ w64 (l .sum)) (rw all at (l .inv .2)))
+
+pub trace-spec : {M : Type 1} → statement M
+trace-spec =
+    tie.close
+    (tie.spec
+    Inv-loop
+    μ-loop
+    cast-vertices
+    array-write-vertices
+    loop-holds
+    mul-edges
+    array-copy-out-edges
+    sub-on
+    sub-on-2
+    mul-on
+    array-copy-out-on
+    first-closing-requires
+    mul-sum
+    array-copy-out-sum
+    add-sum
+    cast-vertices-2
+    array-write-vertices-2
+    add-i
+    loop-less
+    loop-again
+    returns)
