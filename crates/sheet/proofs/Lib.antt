@@ -19,3 +19,7 @@ pub mod Passes
 pub mod Shows
 pub mod Writes
 pub mod Sheets
+pub mod Named
+pub mod Cycles
+pub mod Branches
+pub mod Bounds

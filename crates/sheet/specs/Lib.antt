@@ -8,3 +8,4 @@ pub mod Answers
 pub mod Fast
 pub mod Room
 pub mod Demands
+pub mod Checking

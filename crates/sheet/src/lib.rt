@@ -1,2 +1,5 @@
 // The definitions stand in specs/, the laws of them in proofs/.
+pub mod facts;
+pub mod nodes;
 mod room;
+pub mod trees;

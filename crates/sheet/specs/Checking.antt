@@ -1,0 +1,71 @@
+-- What the checker's code answers, as the definitions say it; and the formula that the code is lent.
+use Prim.Native.Nat.{ℕ, _+_, _-_, _≤_, _<_}
+use mathlib.Core.Path.{_≡_}
+use mathlib.Core.Bool.{Bool, false}
+use mathlib.Core.List.{List, map}
+use lib.ListN.{length, take, drop, getD}
+use lib.IntN.{ℤ, pos}
+use Rattle.meaning.specs.Limits.{mostVertices, mostDecisions}
+use Rattle.grid.specs.Grid.{Grid, least-weight, Bounded}
+use Rattle.grid.specs.Walk.{Below}
+use Rattle.formula.specs.Program.{places, kindsOf}
+use Rattle.formula.specs.Formulas.{Formula}
+use Rattle.formula.specs.Cells.{bit}
+use Rattle.formula.specs.Vertices.{Ranges, present}
+use Rattle.sheet.specs.declared.nodes.Past.{Past}
+use Rattle.sheet.specs.declared.nodes.Past.the-variants.{At, Refused}
+use Rattle.sheet.specs.declared.nodes.Naming.{Naming}
+use Rattle.sheet.specs.declared.nodes.Naming.the-variants.{All, Lacking}
+use Rattle.sheet.specs.Tree.{Outcome, passed, refused, Vertices, got, lacking, vertices, check}
+
+-- positions are those of the part that was lent, which starts at offset base
+abbrev pub outcomeOf : ℕ → List ℕ → Past → Outcome
+outcomeOf base part (At p) = passed (base + p) (drop p part)
+outcomeOf base part (Refused n p) = refused n (base + p)
+
+-- of so many vertices, at offset at
+abbrev pub verticesOf : ℕ → ℕ → List ℕ → Naming → Vertices
+verticesOf at count bytes All = got (take count bytes) (at + count) (drop count bytes)
+verticesOf at count bytes (Lacking n p) = lacking n (at + p)
+
+-- where all are there, they stand within the bytes and each has its flag; else the place stands within the bytes
+abbrev pub NamedInside : List Bool → ℕ → List ℕ → Naming → Type 0
+NamedInside shown count bytes All = (count ≤ length bytes) × Below (length shown) (take count bytes)
+NamedInside shown count bytes (Lacking n p) = p ≤ length bytes
+
+-- the code's flags say which vertices the formula has
+pub record Shows (shown : List Bool) (rs : Ranges) : Type 0 where
+  pub agree : (v : ℕ) → getD shown v false ≡ present rs v
+
+-- what the reading of vertices promises: they are the formula's, whatever else its ranges say; and where all are there, so are the flags
+pub record Named (shown : List Bool) (count : ℕ) (bytes : List ℕ) (r : Naming) : Type 0 where
+  pub meaning : (rs : Ranges) (at : ℕ) → Shows shown rs → verticesOf at count bytes r ≡ vertices rs count at bytes
+  pub inside : NamedInside shown count bytes r
+
+-- ---- a compiled formula, lent part by part
+
+-- what the code may take for granted of it: it fits, and its vertices and weights are those of the grid
+pub record Lendable (kinds left right : List ℕ) (most : List ℤ) (shown : List Bool) : Type 0 where
+  pub short : length kinds ≤ 320
+  pub few : length left ≤ mostDecisions
+  pub rights : length right ≡ length left
+  pub mosts : length most ≡ length left
+  pub flags : length shown ≤ mostVertices
+  pub left-below : Below mostVertices left
+  pub right-below : Below mostVertices right
+  pub small : (i : ℕ) → i < length most → Bounded least-weight (getD most i (pos 0))
+
+-- it is the formula: its kinds, its places, and which vertices it has
+pub record Lent (F : Formula) (ks ls rs : List ℕ) (ms : List ℤ) (flags : List Bool) : Type 0 where
+  pub kinds : ks ≡ kindsOf (F .program)
+  pub left : ls ≡ map (λ a. a .left) (places (F .program))
+  pub right : rs ≡ map (λ a. a .right) (places (F .program))
+  pub most : ms ≡ map (λ a. a .most) (places (F .program))
+  pub shown : Shows flags (F .ranges)
+
+-- the check where so many places are left: the decisions of those before them are the first truths
+unfoldable pub checkLeft : Formula → ℕ → List ℕ → Grid → ℕ → List ℕ → Outcome
+checkLeft F todo truths g at bs =
+    let ps = places (F .program) in
+    let decided = length ps - todo in
+    check mostVertices F (drop decided ps) (map bit (take decided truths)) g at bs
