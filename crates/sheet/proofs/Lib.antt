@@ -23,3 +23,4 @@ pub mod Named
 pub mod Cycles
 pub mod Branches
 pub mod Bounds
+pub mod Twelves

@@ -9,3 +9,4 @@ pub mod Fast
 pub mod Room
 pub mod Demands
 pub mod Checking
+pub mod Twelve
