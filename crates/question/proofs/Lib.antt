@@ -3,3 +3,8 @@ pub mod Steps
 pub mod Loops
 pub mod TokenRun
 pub mod Answers
+pub mod Holds
+pub mod Layouts
+pub mod Conditions
+pub mod Changes
+pub mod Accepts
