@@ -1,7 +1,7 @@
 -- Each formula's program has the truth of the trouble list's formula at the same position, on the rows that an assignment stands for.
 use Prim.Native.Nat.{ℕ}
 use mathlib.Core.Path.{_≡_, refl, ap, _∙_}
-use mathlib.Core.Bool.{Bool, true, false, not, _&&_, _||_, cond}
+use mathlib.Core.Bool.{Bool, true, false, _&&_, cond}
 use mathlib.Core.List.{List, [], _∷_, map}
 use lib.Dec.{eqb}
 use lib.IntN.{pos}
@@ -12,10 +12,10 @@ use Rattle.meaning.specs.WellFormed.{Uses, Reads}
 use Rattle.meaning.specs.Trouble.{modeAt, moved, differ, one, two}
 use Rattle.meaning.specs.Trouble as trouble
 use Rattle.question.specs.Accepted.{Shaped}
-use Rattle.formula.specs.Program.{Values, Program, falseI, run, truth}
+use Rattle.formula.specs.Program.{Values, Program, run, truth}
 use Rattle.formula.specs.Compile.{Sight}
 use Rattle.formula.specs.Parts.{_and_, conditionProgram}
-use Rattle.formula.specs.Formulas.{Formula, firstSight, secondSight, after, oneRow, twoRows, boundedAll, differs, differsOver, C, moves, S, inserted, entering, irrelevance, computability, unlessAlone, formulas}
+use Rattle.formula.specs.Formulas.{Formula, firstSight, secondSight, after, oneRow, twoRows, boundedAll, differs, C, moves, S, inserted, entering, irrelevance, computability, unlessAlone, formulas}
 use Rattle.formula.proofs.Compiles.{run-append, Sees}
 use Rattle.formula.proofs.Pieces.{Pushes, pushes-truth, pushes-and, pushes-or, pushes-not, pushes-condition}
 use Rattle.formula.proofs.Usable.{Exists, ChangeUsable, Usable, reads-become}

@@ -9,7 +9,7 @@ use Rattle.meaning.specs.Condition.{Row}
 use Rattle.meaning.specs.Contents.{Question, keep, become, Values, columns, columnsOf, first, look, fits, newValue}
 use Rattle.meaning.specs.Trouble.{moved, put}
 use Rattle.meaning.specs.Witness.{cut}
-use Rattle.meaning.proofs.Moving.{Wide, fits-length, put-same}
+use Rattle.meaning.proofs.Moving.{fits-length, put-same}
 use Rattle.meaning.proofs.Tables.{fits-append, cut-values, cut-fits}
 use Rattle.formula.specs.Formulas.{putIn}
 

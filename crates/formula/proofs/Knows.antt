@@ -1,6 +1,6 @@
 -- What is known of a formula under the places decided so far holds of every assignment that agrees with them; with every place decided
 -- nothing is unknown; and only the kinds of the instructions count.
-use Prim.Native.Nat.{ℕ, _≤_}
+use Prim.Native.Nat.{_≤_}
 use mathlib.Core.Path.{_≡_, refl, ap}
 use mathlib.Core.Bool.{Bool, true, false, not, _&&_, _||_}
 use mathlib.Core.List.{List, [], _∷_}

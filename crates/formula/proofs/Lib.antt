@@ -15,3 +15,4 @@ pub mod Emits
 pub mod Weights
 pub mod Shapes
 pub mod Sightings
+pub mod Examples

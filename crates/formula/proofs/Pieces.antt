@@ -1,19 +1,19 @@
 -- Parts push one truth each, and joined parts the joined truth.
 use Prim.Native.Nat.{ℕ}
 use mathlib.Core.Path.{_≡_, refl, sym, ap, _∙_}
-use mathlib.Core.Bool.{Bool, true, false, not, _&&_, _||_}
+use mathlib.Core.Bool.{Bool, not, _&&_, _||_}
 use mathlib.Core.List.{List, [], _∷_, _++_}
 use lib.ListN.{length}
 use lib.Dec.{T}
 use lib.IntN.{pos}
-use Rattle.meaning.specs.Condition.{Op, compare, both, either, negate, Condition, Row, holds, sideOf}
+use Rattle.meaning.specs.Condition.{compare, both, either, negate, Condition, Row, holds, sideOf}
 use Rattle.meaning.specs.Condition as C
 use Rattle.meaning.specs.WellFormed.{Uses}
 use Rattle.question.specs.Accepted.{leavesOne, Shaped}
-use Rattle.formula.specs.Program.{Values, Term, value, andI, orI, notI, trueI, falseI, Program, run, top, truth}
-use Rattle.formula.specs.Compile.{Sight, comparison, compile}
+use Rattle.formula.specs.Program.{Values, andI, orI, notI, Program, run, top, truth}
+use Rattle.formula.specs.Compile.{Sight}
 use Rattle.formula.specs.Parts.{_and_, _or_, denied, conditionProgram}
-use Rattle.formula.proofs.Compiles.{run-append, comparison-is, Sees, compile-is}
+use Rattle.formula.proofs.Compiles.{run-append, Sees, compile-is}
 
 pub record Pushes (ρ : Values) (p : Program) (b : Bool) : Type 0 where
   pub runs : (st : List Bool) → run ρ p st ≡ b ∷ st
@@ -21,14 +21,6 @@ pub record Pushes (ρ : Values) (p : Program) (b : Bool) : Type 0 where
 module _ (ρ : Values) where
   pub pushes-truth : {p : Program} {b : Bool} → Pushes ρ p b → truth ρ p ≡ b
   pushes-truth p = ap top (p .runs [])
-
-  pub pushes-true : Pushes ρ (trueI ∷ []) true
-  unfolding run
-  pushes-true = record { runs = λ st. refl }
-
-  pub pushes-false : Pushes ρ (falseI ∷ []) false
-  unfolding run
-  pushes-false = record { runs = λ st. refl }
 
   -- two parts, then what joins them
   joined : (p r e : Program) {a b : Bool} → Pushes ρ p a → Pushes ρ r b → (st : List Bool) → run ρ (p ++ (r ++ e)) st ≡ run ρ e (b ∷ (a ∷ st))
@@ -45,9 +37,6 @@ module _ (ρ : Values) where
   pub pushes-not : {p : Program} {a : Bool} → Pushes ρ p a → Pushes ρ (denied p) (not a)
   unfolding run
   pushes-not {p} x = record { runs = λ st. run-append ρ p (notI ∷ []) st ∙ ap (run ρ (notI ∷ [])) (x .runs st) }
-
-  pub pushes-comparison : (op : Op) (l r : Term) → Pushes ρ (comparison op l r) (holds op (value ρ l) (value ρ r))
-  pushes-comparison op l r = record { runs = comparison-is ρ op l r }
 
 -- it leaves what lies under it alone
 frame : (r : Row) (c : Condition) (st under : List Bool) → T (leavesOne (length st) c) → (b : Bool) × (C.run r c st ≡ b ∷ []) × (C.run r c (st ++ under) ≡ b ∷ under)

@@ -13,9 +13,9 @@ use Rattle.meaning.specs.Trouble.{modeAt}
 use Rattle.question.specs.Accepted.{Every, RangeOk, ModeOk}
 use Rattle.formula.specs.Compile.{Sight}
 use Rattle.formula.specs.Vertices.{Ranges, present, isSome}
-use Rattle.formula.specs.Formulas.{firstSight, among, secondSight, newTerm, after, firstRanges, hiddenRanges}
+use Rattle.formula.specs.Formulas.{firstSight, among, secondSight, newTerm, after, firstRanges, hiddenRanges, bothRanges}
 use Rattle.formula.proofs.Usable.{Exists, mode-at, reads-at}
-use Rattle.formula.proofs.Rows.{bothRanges, hidden-at, getD-after}
+use Rattle.formula.proofs.Rows.{hidden-at, getD-after}
 use Rattle.formula.proofs.Sizes.{large, SmallTerm, SmallSight, small-constant, small-plus, constant-size}
 
 -- what is so of the columns' ranges is so of the vertices'

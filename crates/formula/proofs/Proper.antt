@@ -24,9 +24,8 @@ use Rattle.formula.specs.Program.{Program, places, falseI}
 use Rattle.formula.specs.Compile.{Sight}
 use Rattle.formula.specs.Parts.{conditionProgram}
 use Rattle.formula.specs.Vertices.{Ranges}
-use Rattle.formula.specs.Formulas.{Formula, firstSight, secondSight, after, firstRanges, hiddenRanges, oneRow, twoRows, boundedAll, differsOver, differs, C, moves, S, inserted, entering, irrelevance, computability, unlessAlone, formulas}
+use Rattle.formula.specs.Formulas.{Formula, firstSight, secondSight, after, firstRanges, hiddenRanges, bothRanges, oneRow, twoRows, boundedAll, differsOver, differs, C, moves, S, inserted, entering, irrelevance, computability, unlessAlone, formulas}
 use Rattle.formula.proofs.Usable.{Exists, ChangeUsable, Usable, usable, reads-become}
-use Rattle.formula.proofs.Rows.{bothRanges}
 use Rattle.formula.proofs.Sizes.{billion, large, SmallPlace, Sized, size-append, size-most, size-join, size-and, size-or, size-not, SmallSight, range-size, size-condition, size-boundedAll, size-differsOver}
 use Rattle.formula.proofs.Present.{first-every, both-every, hidden-length, first-in-one, first-in-both, second-in-both, after-small}
 

@@ -1,13 +1,13 @@
 -- Rows in range come from assignments in range, and back.
 use Prim.Native.Nat.{ℕ, zero, suc, _+_, _<_}
-use mathlib.Core.Path.{_≡_, refl, sym, ap, ap₂, _∙_, subst}
-use mathlib.Core.Bool.{Bool, true, false, _&&_, _||_, cond}
+use mathlib.Core.Path.{_≡_, refl, sym, ap₂, _∙_, subst}
+use mathlib.Core.Bool.{Bool, true, false, _||_, cond}
 use mathlib.Core.Option.{Option, none, some}
 use mathlib.Core.List.{List, [], _∷_, _++_, map, append-nil, head-eq-of-cons-eq, tail-eq-of-cons-eq}
 use native.Mathlib.Omega.{arith}
 use lib.ListN.{length, getD, length-map, List·getD-append}
 use lib.Dec.{T, eqb, eqb→eq, eqb-refl}
-use lib.IntN.{ℤ, pos, _+ℤ_}
+use lib.IntN.{ℤ, pos}
 use lib.Signed.{_≤ℤ_, leZ}
 use Rattle.ints.proofs.Bridge.{ints, +law}
 use Rattle.meaning.specs.Contents.{Question, Range, columns, look, fits, inRange, part}
@@ -17,9 +17,9 @@ use Rattle.meaning.proofs.Moving.{fits-length}
 use Rattle.question.specs.Accepted.{Every}
 use Rattle.formula.specs.Program.{Values, value}
 use Rattle.formula.specs.Vertices.{Ranges, Within, InRange}
-use Rattle.formula.specs.Formulas.{vertex, firstSight, among, secondSight, firstRanges, hiddenRanges, oneRow, twoRows, assign, tabulate, rowOf1, rowOf2}
+use Rattle.formula.specs.Formulas.{vertex, firstSight, among, secondSight, firstRanges, hiddenRanges, bothRanges, assign, tabulate, rowOf1, rowOf2}
 use Rattle.formula.proofs.Compiles.{Sees}
-use Rattle.formula.proofs.Usable.{Exists, Usable}
+use Rattle.formula.proofs.Usable.{Exists}
 
 -- ---- ranges, position by position
 
@@ -89,10 +89,6 @@ value-vertex ρ v = omega (ints, +law (ρ v) (pos 0))
 -- ---- from rows to an assignment
 
 module _ (q : Question) where
-  -- the ranges of both rows, as one list
-  abbrev pub bothRanges : Ranges
-  bothRanges = firstRanges (columns q) ++ hiddenRanges (q .visible) 0 (columns q)
-
   hidden-in : (gs : List Range) (w : M.Values) → T (fits gs w) → (vs : List ℕ) (i : ℕ) → Ranged (getD (hiddenRanges vs 0 gs) i none) (look w i)
   hidden-in gs w t vs i = rw (hidden-at vs 0 gs i) (go (among vs (0 + i)))
     where
@@ -106,8 +102,8 @@ module _ (q : Question) where
   pub assign-one : (u : M.Values) → T (fits (columns q) u) → InRange (firstRanges (columns q)) (assign u [])
   assign-one u t = record { at-zero = refl; within = subst (Within (assign u []) 1) (append-nil (firstRanges (columns q))) (within-by (assign u []) 1 (firstRanges (columns q) ++ []) (λ i. let e : 1 + i ≡ suc i = omega arith in rw e (fits-at (columns q) u t [] [] (λ j. tt) i))) }
 
-  pub assign-two : (u w : M.Values) → T (fits (columns q) u) → T (fits (columns q) w) → InRange bothRanges (assign u w)
-  assign-two u w t s = record { at-zero = refl; within = within-by (assign u w) 1 bothRanges (λ i. let e : 1 + i ≡ suc i = omega arith in rw e (fits-at (columns q) u t (hiddenRanges (q .visible) 0 (columns q)) w (hidden-in (columns q) w s (q .visible)) i)) }
+  pub assign-two : (u w : M.Values) → T (fits (columns q) u) → T (fits (columns q) w) → InRange (bothRanges q) (assign u w)
+  assign-two u w t s = record { at-zero = refl; within = within-by (assign u w) 1 (bothRanges q) (λ i. let e : 1 + i ≡ suc i = omega arith in rw e (fits-at (columns q) u t (hiddenRanges (q .visible) 0 (columns q)) w (hidden-in (columns q) w s (q .visible)) i)) }
 
   pub assign-sees-one : (u w : M.Values) → T (fits (columns q) u) → Sees (Exists q) (assign u w) firstSight (look u)
   assign-sees-one u w t i h = value-vertex (assign u w) (suc i) ∙ List·getD-append u w (pos 0) i (omega (arith, fits-length (columns q) u t))
@@ -147,7 +143,7 @@ module _ (q : Question) where
   pub rowOf1-fits : (ρ : Values) (hs : Ranges) → InRange (firstRanges (columns q) ++ hs) ρ → T (fits (columns q) (rowOf1 q ρ))
   rowOf1-fits ρ hs r = fits-tabulate (columns q) (λ i. ρ (suc i)) (λ i. ranged-first (columns q) hs i (ρ (suc i)) (subst (λ j. Ranged (getD (firstRanges (columns q) ++ hs) i none) (ρ j)) (omega arith) (within-at ρ 1 (firstRanges (columns q) ++ hs) (r .within) i)))
 
-  pub rowOf2-fits : (ρ : Values) → InRange bothRanges ρ → T (fits (columns q) (rowOf2 q ρ))
+  pub rowOf2-fits : (ρ : Values) → InRange (bothRanges q) ρ → T (fits (columns q) (rowOf2 q ρ))
   rowOf2-fits ρ r = fits-tabulate (columns q) (λ i. ρ (secondSight q i .vertex)) at
     where
       n : ℕ
@@ -156,10 +152,10 @@ module _ (q : Question) where
       hs : Ranges
       hs = hiddenRanges (q .visible) 0 (columns q)
 
-      inside : (i : ℕ) → Ranged (getD bothRanges i none) (ρ (suc i))
-      inside i = subst (λ j. Ranged (getD bothRanges i none) (ρ j)) (omega arith) (within-at ρ 1 bothRanges (r .within) i)
+      inside : (i : ℕ) → Ranged (getD (bothRanges q) i none) (ρ (suc i))
+      inside i = subst (λ j. Ranged (getD (bothRanges q) i none) (ρ j)) (omega arith) (within-at ρ 1 (bothRanges q) (r .within) i)
 
-      hidden : (i : ℕ) → getD bothRanges (n + i) none ≡ cond (among (q .visible) i) none (getD (firstRanges (columns q)) i none)
+      hidden : (i : ℕ) → getD (bothRanges q) (n + i) none ≡ cond (among (q .visible) i) none (getD (firstRanges (columns q)) i none)
       hidden i = let e : 0 + i ≡ i = omega arith in getD-after (firstRanges (columns q)) hs none n i (sym (length-map (columns q) some)) ∙ rw e at (hidden-at (q .visible) 0 (columns q) i)
 
       at : (i : ℕ) → Ranged (getD (firstRanges (columns q)) i none) (ρ (secondSight q i .vertex))
@@ -192,3 +188,18 @@ module _ (q : Question) where
       go (i ∷ is) e a = ap₂ (λ x l. x ∷ l)
           (look-tabulate (length (columns q)) (λ j. ρ (suc j)) i (e .0) ∙ at i (among (q .visible) i) (a .0) ∙ sym (look-tabulate (length (columns q)) (λ j. ρ (secondSight q j .vertex)) i (e .0)))
           (go is (e .1) (a .1))
+
+  -- ---- there and back
+
+  tabulate-is : (u : M.Values) (n : ℕ) (f : ℕ → ℤ) → length u ≡ n → ((i : ℕ) → i < n → f i ≡ look u i) → tabulate n f ≡ u
+  unfolding tabulate
+  tabulate-is [] zero f e h = refl
+  tabulate-is [] (suc n) f e h = absurd (omega arith)
+  tabulate-is (x ∷ u) zero f e h = absurd (omega arith)
+  tabulate-is (x ∷ u) (suc n) f e h = ap₂ (λ y l. y ∷ l) (h 0 (omega arith)) (tabulate-is u n (λ i. f (suc i)) (omega arith) (λ i k. h (suc i) (omega arith)))
+
+  pub rowOf1-assign : (u w : M.Values) → T (fits (columns q) u) → rowOf1 q (assign u w) ≡ u
+  rowOf1-assign u w t = tabulate-is u (length (columns q)) (λ i. assign u w (suc i)) (fits-length (columns q) u t) (λ i h. sym (value-vertex (assign u w) (suc i)) ∙ assign-sees-one u w t i h)
+
+  pub rowOf2-assign : (u w : M.Values) → T (fits (columns q) u) → T (fits (columns q) w) → part q (look u) ≡ part q (look w) → rowOf2 q (assign u w) ≡ w
+  rowOf2-assign u w t s e = tabulate-is w (length (columns q)) (λ i. assign u w (secondSight q i .vertex)) (fits-length (columns q) w s) (λ i h. sym (value-vertex (assign u w) (secondSight q i .vertex)) ∙ assign-sees-two u w t e i h)

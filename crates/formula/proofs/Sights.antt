@@ -1,5 +1,5 @@
 -- The parts of formulas push the trouble lists' truths, on any row that a sight shows.
-use Prim.Native.Nat.{ℕ, zero, suc}
+use Prim.Native.Nat.{ℕ}
 use mathlib.Core.Path.{_≡_, refl, sym, ap, ap₂, _∙_}
 use mathlib.Core.Bool.{Bool, true, false, not, _&&_, _||_, cond, and-true, or-false, and-assoc, or-assoc}
 use mathlib.Core.List.{List, [], _∷_, _++_}

@@ -6,18 +6,18 @@ use mathlib.Core.List.{List, [], _∷_, _++_, foldl}
 use native.Mathlib.Omega.{arith}
 use lib.ListN.{length, length-append}
 use lib.Dec.{T}
-use lib.IntN.{ℤ, pos, negsuc, negℤ, _+ℤ_, _-ℤ_}
+use lib.IntN.{ℤ, pos, negsuc, negℤ, _-ℤ_}
 use lib.Signed.{_≤ℤ_}
 use Rattle.ints.proofs.Bridge.{up, dn, ints, +up, +dn, neg-up, neg-dn}
 use Rattle.meaning.specs.Limits.{mostTokens, mostComparisons}
-use Rattle.meaning.specs.Condition.{Op, less, atMost, equal, atLeast, more, unequal, Side, constant, column, Token, compare, both, either, negate, Condition}
+use Rattle.meaning.specs.Condition.{Op, less, atMost, equal, atLeast, more, unequal, Side, constant, column, compare, both, either, negate, Condition}
 use Rattle.meaning.specs.Contents.{Range, Table, Mode, keep, become, shift}
 use Rattle.meaning.specs.Trouble.{kept}
-use Rattle.meaning.specs.WellFormed.{SideUses, TokenUses, Uses, Reads}
-use Rattle.question.specs.Reader.{farthest, largest, counted, comparisons}
+use Rattle.meaning.specs.WellFormed.{SideUses, Uses, Reads}
+use Rattle.question.specs.Reader.{counted}
 use Rattle.question.specs.Accepted.{Every, RangeOk, ConstantOk, SideOk, TokenOk, ConditionOk, ModeOk}
 use Rattle.formula.specs.Program.{Term, Place, Instr, place, andI, orI, notI, trueI, falseI, Program, places}
-use Rattle.formula.specs.Compile.{Sight, atMostPlace, belowPlace, comparison, constantTerm, plus, sideTerm, token, compile}
+use Rattle.formula.specs.Compile.{Sight, atMostPlace, belowPlace, comparison, constantTerm, plus, sideTerm, compile}
 use Rattle.formula.specs.Parts.{_and_, _or_, denied, conditionProgram}
 use Rattle.formula.specs.Vertices.{Ranges, present}
 use Rattle.formula.specs.Formulas.{bounded, boundedAll, differsNew, differsOver}

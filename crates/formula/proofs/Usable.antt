@@ -1,10 +1,10 @@
 -- What the laws of formulas ask of a question: its columns exist and its conditions leave one truth. An accepted one is usable.
-use Prim.Native.Nat.{ℕ, zero, suc, _+_, _≤_, _<_}
+use Prim.Native.Nat.{ℕ, zero, suc, _<_}
 use mathlib.Core.List.{List, [], _∷_, _++_, map}
 use native.Mathlib.Omega.{arith}
 use lib.ListN.{length, getD, replicate, length-append}
 use Rattle.meaning.specs.Condition.{Condition, Token, compare, both, either, negate, Side, constant, column}
-use Rattle.meaning.specs.Contents.{Question, Change, insert, delete, modify, Mode, keep, become, shift, Values, columns, columnsOf, first}
+use Rattle.meaning.specs.Contents.{Question, Change, insert, delete, modify, Mode, keep, become, shift, Values, columns, columnsOf}
 use Rattle.meaning.specs.WellFormed.{Mine, SideUses, TokenUses, Uses, Reads, ChangeOk}
 use Rattle.question.specs.Accepted.{Every, Shaped, ChangeAccepted, Ascending, Accepted}
 

@@ -1,6 +1,6 @@
 -- Comparisons and conditions as programs (01, Trouble lists). A sight says which term stands for a column.
 use Prim.Native.Nat.{ℕ}
-use mathlib.Core.List.{List, [], _∷_, _++_}
+use mathlib.Core.List.{[], _∷_, _++_}
 use lib.IntN.{ℤ, negsuc, _+ℤ_, _-ℤ_}
 use Rattle.meaning.specs.Condition.{Op, less, atMost, equal, atLeast, more, unequal, Side, constant, column, Token, compare, both, either, negate, Condition}
 use Rattle.formula.specs.Program.{Term, Place, place, andI, orI, notI, Program}

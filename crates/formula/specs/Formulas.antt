@@ -1,7 +1,7 @@
 -- The trouble lists of 01 as programs over vertices: "Formulas count from 0, parts in the order written."
 use Prim.Native.Nat.{ℕ, zero, suc, _+_}
 use mathlib.Core.Bool.{Bool, true, false, _||_, cond}
-use mathlib.Core.Option.{Option, none, some}
+use mathlib.Core.Option.{none, some}
 use mathlib.Core.List.{List, [], _∷_, _++_, map}
 use lib.ListN.{length, take, drop}
 use lib.Dec.{eqb}
@@ -63,8 +63,11 @@ hiddenRanges vs i (g ∷ gs) = cond (among vs i) none (some g) ∷ hiddenRanges 
 abbrev pub oneRow : Question → Program → Formula
 oneRow q p = record { ranges = firstRanges (columns q); pairs = false; program = p }
 
+abbrev pub bothRanges : Question → Ranges
+bothRanges q = firstRanges (columns q) ++ hiddenRanges (q .visible) 0 (columns q)
+
 abbrev pub twoRows : Question → Program → Formula
-twoRows q p = record { ranges = firstRanges (columns q) ++ hiddenRanges (q .visible) 0 (columns q); pairs = true; program = p }
+twoRows q p = record { ranges = bothRanges q; pairs = true; program = p }
 
 -- ---- parts
 
