@@ -8,3 +8,4 @@ pub mod Layouts
 pub mod Conditions
 pub mod Changes
 pub mod Accepts
+pub mod RowRun

@@ -3,16 +3,21 @@ use Prim.Native.Nat.{ℕ, _≤_}
 use mathlib.Core.Bool.{cond}
 use mathlib.Core.Path.{_≡_}
 use mathlib.Core.List.{List, map}
-use lib.ListN.{length, take}
+use lib.ListN.{length, take, drop}
 use lib.Dec.{ltb, leb, eqb}
 use lib.IntN.{ℤ}
 use Rattle.meaning.specs.Condition as C
+use Rattle.meaning.specs.Contents as M
+use Rattle.question.specs.Layout as L
 use Rattle.question.specs.Reader.{Outcome, bad, At, found, andThen, byte, upTo, rightAt, constantAt, sideOf, comparisonAt, height}
 use Rattle.meaning.specs.Limits.{mostTokens, mostComparisons}
-use Rattle.question.specs.Held.{kindOf, tokenOf, conditionOf}
+use Rattle.question.specs.Held.{kindOf, tokenOf, conditionOf, columnOf, rowOf}
 use Rattle.question.specs.declared.types.Answer.{Answer}
 use Rattle.question.specs.declared.types.Answer.the-variants.{Good, Refused}
 use Rattle.question.specs.declared.types.Condition.{Condition}
+use Rattle.question.specs.declared.types.Column.{Column}
+use Rattle.question.specs.declared.types.Row.{Row}
+use Rattle.question.specs.declared.rows.Line.{Line}
 use Rattle.question.specs.declared.condition.Tokens.{Tokens}
 use Rattle.question.specs.declared.condition.Clause.{Clause}
 use Rattle.question.specs.declared.fields.Byte.{Byte}
@@ -85,3 +90,17 @@ clauseBy (Refused m p) c q = bad m p
 pub record ClauseRead (r : Clause) (o : Outcome (At C.Condition)) : Type 0 where
   pub meaning : clauseBy (r .answer) (r .condition) (r .next) ≡ o
   pub fewTokens : r .condition .count ≤ mostTokens
+
+-- ---- rows
+
+-- the ranges of the columns from number `first` on
+abbrev pub rangesAt : List Column → ℕ → ℕ → List M.Range
+rangesAt cs first width = take width (drop first (L.rangesOf (map columnOf cs)))
+
+abbrev pub lineBy : Answer → ℕ → Row → ℕ → Outcome (At M.Values)
+lineBy Good width r q = found (rowOf width r) q
+lineBy (Refused m p) width r q = bad m p
+
+-- a row was read, and o is what 01 gives for it
+pub record LineRead (width : ℕ) (r : Line) (o : Outcome (At M.Values)) : Type 0 where
+  pub meaning : lineBy (r .answer) width (r .row) (r .next) ≡ o

@@ -1,5 +1,6 @@
 // Questions: the declared types, and the reader that gives every byte string its answer.
 pub mod condition;
 pub mod fields;
+pub mod rows;
 pub mod token;
 pub mod types;

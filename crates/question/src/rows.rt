@@ -1,0 +1,49 @@
+// Inserted rows: each value is tested against its column's range. The changed table's columns are `first` to `first + width - 1`.
+ghost use Prim.Native.Nat.{_+_, _≤_};
+ghost use mathlib.Core.Path.{_≡_};
+ghost use lib.ListN.{length};
+ghost use Rattle.question.specs.Reader.{rowAt};
+ghost use Rattle.question.specs.Pieces.{LineRead, rangesAt};
+
+use crate::fields::{Number, number_at};
+use crate::types::{Answer, Column, Row};
+
+// One row's values and the next offset, or a refusal.
+pub struct Line {
+    pub answer: Answer,
+    pub row: Row,
+    pub next: usize,
+}
+
+fn row_at(s: &[u8], columns: [Column; 8], first: usize, width: usize, p: usize) -> Line
+    requires { ⌜ first + width ≤ 8 ⌝ }
+    requires { ⌜ length columns ≡ 8 ⌝ }
+    ensures { λ r. ⌜ LineRead width r (rowAt (now (s .entry)) (rangesAt columns first width) p) ⌝ }
+{
+    let mut values = [0i32; 8];
+    let mut next = p;
+    let mut i = 0;
+    while i < width {
+        let c = columns[first + i];
+        let v = number_at(s, 5, c.lo, c.hi, next);
+        match v {
+            Number::Is(value, q) => {
+                values[i] = value;
+                next = q;
+                i += 1;
+            }
+            Number::Not(n, at) => {
+                return Line {
+                    answer: Answer::Refused(n, at),
+                    row: Row { values: values },
+                    next: at,
+                };
+            }
+        }
+    }
+    Line {
+        answer: Answer::Good,
+        row: Row { values: values },
+        next: next,
+    }
+}
