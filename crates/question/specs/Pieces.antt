@@ -18,6 +18,7 @@ use Rattle.question.specs.declared.types.Condition.{Condition}
 use Rattle.question.specs.declared.types.Column.{Column}
 use Rattle.question.specs.declared.types.Row.{Row}
 use Rattle.question.specs.declared.rows.Line.{Line}
+use Rattle.question.specs.declared.rows.Lines.{Lines}
 use Rattle.question.specs.declared.condition.Tokens.{Tokens}
 use Rattle.question.specs.declared.condition.Clause.{Clause}
 use Rattle.question.specs.declared.fields.Byte.{Byte}
@@ -104,3 +105,7 @@ lineBy (Refused m p) width r q = bad m p
 -- a row was read, and o is what 01 gives for it
 pub record LineRead (width : ℕ) (r : Line) (o : Outcome (At M.Values)) : Type 0 where
   pub meaning : lineBy (r .answer) width (r .row) (r .next) ≡ o
+
+-- n rows were read, and o is what 01 gives for them
+pub record LinesRead (width n : ℕ) (r : Lines) (o : Outcome (At (List M.Values))) : Type 0 where
+  pub meaning : listOf (rowOf width) (r .answer) n (r .rows) (r .next) ≡ o

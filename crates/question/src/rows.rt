@@ -1,9 +1,10 @@
 // Inserted rows: each value is tested against its column's range. The changed table's columns are `first` to `first + width - 1`.
 ghost use Prim.Native.Nat.{_+_, _≤_};
 ghost use mathlib.Core.Path.{_≡_};
+ghost use mathlib.Core.List.{[]};
 ghost use lib.ListN.{length};
-ghost use Rattle.question.specs.Reader.{rowAt};
-ghost use Rattle.question.specs.Pieces.{LineRead, rangesAt};
+ghost use Rattle.question.specs.Reader.{rowAt, many};
+ghost use Rattle.question.specs.Pieces.{LineRead, LinesRead, rangesAt};
 
 use crate::fields::{Number, number_at};
 use crate::types::{Answer, Column, Row};
@@ -44,6 +45,48 @@ fn row_at(s: &[u8], columns: [Column; 8], first: usize, width: usize, p: usize) 
     Line {
         answer: Answer::Good,
         row: Row { values: values },
+        next: next,
+    }
+}
+
+// Rows and the next offset, or a refusal.
+pub struct Lines {
+    pub answer: Answer,
+    pub rows: [Row; 4],
+    pub next: usize,
+}
+
+pub fn rows_at(s: &[u8], columns: [Column; 8], first: usize, width: usize, n: usize, p: usize) -> Lines
+    requires { ⌜ first + width ≤ 8 ⌝ }
+    requires { ⌜ length columns ≡ 8 ⌝ }
+    requires { ⌜ n ≤ 4 ⌝ }
+    ensures { λ r. ⌜ LinesRead width n r (many (λ rs q. rowAt (now (s .entry)) (rangesAt columns first width) q) n [] p) ⌝ }
+{
+    let mut rows = [Row { values: [0i32; 8] }; 4];
+    let mut next = p;
+    let mut i = 0;
+    while i < n {
+        let line = row_at(s, columns, first, width, next);
+        let answer = line.answer;
+        match answer {
+            Answer::Good => {
+                let row = line.row;
+                rows[i] = row;
+                next = line.next;
+                i += 1;
+            }
+            Answer::Refused(m, at) => {
+                return Lines {
+                    answer: Answer::Refused(m, at),
+                    rows: rows,
+                    next: at,
+                };
+            }
+        }
+    }
+    Lines {
+        answer: Answer::Good,
+        rows: rows,
         next: next,
     }
 }
