@@ -9,3 +9,4 @@ pub mod Conditions
 pub mod Changes
 pub mod Accepts
 pub mod RowRun
+pub mod ModeLaws

@@ -9,15 +9,20 @@ use lib.IntN.{ℤ}
 use Rattle.meaning.specs.Condition as C
 use Rattle.meaning.specs.Contents as M
 use Rattle.question.specs.Layout as L
-use Rattle.question.specs.Reader.{Outcome, bad, At, found, andThen, byte, upTo, rightAt, constantAt, sideOf, comparisonAt, height}
+use Rattle.question.specs.Reader.{Outcome, bad, At, found, andThen, byte, int, upTo, rightAt, constantAt, sideOf, comparisonAt, height, keepAt, becomeAt, shiftAt}
 use Rattle.meaning.specs.Limits.{mostTokens, mostComparisons}
-use Rattle.question.specs.Held.{kindOf, tokenOf, conditionOf, columnOf, rowOf}
+use Rattle.question.specs.Held.{kindOf, tokenOf, conditionOf, columnOf, rowOf, modeOf, settingOf}
 use Rattle.question.specs.declared.types.Answer.{Answer}
 use Rattle.question.specs.declared.types.Answer.the-variants.{Good, Refused}
 use Rattle.question.specs.declared.types.Condition.{Condition}
 use Rattle.question.specs.declared.types.Column.{Column}
 use Rattle.question.specs.declared.types.Row.{Row}
 use Rattle.question.specs.declared.rows.Line.{Line}
+use Rattle.question.specs.declared.modes.Operand.{Operand}
+use Rattle.question.specs.declared.modes.Operand.the-variants as operand
+use Rattle.question.specs.declared.modes.Choice.{Choice}
+use Rattle.question.specs.declared.modes.Choice.the-variants as choice
+use Rattle.question.specs.declared.modes.Settings.{Settings}
 use Rattle.question.specs.declared.rows.Lines.{Lines}
 use Rattle.question.specs.declared.condition.Tokens.{Tokens}
 use Rattle.question.specs.declared.condition.Clause.{Clause}
@@ -109,3 +114,39 @@ pub record LineRead (width : ℕ) (r : Line) (o : Outcome (At M.Values)) : Type 
 -- n rows were read, and o is what 01 gives for them
 pub record LinesRead (width n : ℕ) (r : Lines) (o : Outcome (At (List M.Values))) : Type 0 where
   pub meaning : listOf (rowOf width) (r .answer) n (r .rows) (r .next) ≡ o
+
+-- ---- modes
+
+-- a mode's column byte and constant
+pub record Operands : Type 0 where
+  pub column : ℕ
+  pub constant : ℤ
+
+abbrev pub operandOf : Operand → Outcome (At Operands)
+operandOf (operand.Is j k q) = found (record { column = j; constant = k }) q
+operandOf (operand.Not n p) = bad n p
+
+unfoldable pub operandsAt : List ℕ → ℕ → ℕ → ℕ → ℕ → ℤ → ℤ → ℕ → Outcome (At Operands)
+operandsAt s n low high m lo hi p =
+    andThen (byte s n low high p) λ j p.
+    andThen (int s m lo hi p) λ k p.
+    found (record { column = j; constant = k }) p
+
+-- "mode (0 keep, 1 constant, 2 column plus constant)"
+abbrev pub modeNamed : ℕ → ℕ → ℤ → M.Mode
+modeNamed m j k = cond (eqb m 0) M.keep (cond (eqb m 1) (M.become k) (M.shift j k))
+
+abbrev pub chosenBy : ℕ → Operands → ℕ → Outcome (At M.Mode)
+chosenBy m v q = found (modeNamed m (v .column) (v .constant)) q
+
+abbrev pub choiceOf : Choice → Outcome (At M.Mode)
+choiceOf (choice.Is m q) = found (modeOf m) q
+choiceOf (choice.Not n p) = bad n p
+
+-- a mode, after its byte
+unfoldable pub choiceAt : List ℕ → ℕ → ℕ → ℕ → ℕ → Outcome (At M.Mode)
+choiceAt s low high m p = cond (eqb m 0) (keepAt s p) (cond (eqb m 1) (becomeAt s p) (shiftAt s low high p))
+
+-- n settings were read, and o is what 01 gives for them
+pub record SettingsRead (n : ℕ) (r : Settings) (o : Outcome (At (List M.Mode))) : Type 0 where
+  pub meaning : listOf settingOf (r .answer) n (r .settings) (r .next) ≡ o

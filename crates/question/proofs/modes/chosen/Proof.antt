@@ -1,0 +1,30 @@
+use mathlib.Core.Path.{sym, ap, _∙_}
+use mir.Facts.{toZ-ofZ}
+use Rattle.question.specs.Pieces.{operandOf}
+use Rattle.question.proofs.Steps.{on-good, on-bad}
+use borrow.Author.Needs.{needs}
+use Rattle.question.proofs.modes.chosen.Statement.{statement}
+use Rattle.question.proofs.modes.chosen.Tie as tie
+use Rattle.question.proofs.modes.chosen.Reads as reads
+use Rattle.question.proofs.modes.chosen.Lts as lts
+use Rattle.question.proofs.modes.mode_of.Reads as mode-of-reads
+
+enum-known-o : tie.Need-enum-known-o
+enum-known-o c = search needs
+
+mode-of-requires : tie.Need-mode-of-requires
+mode-of-requires c κs = search needs
+
+enum-known-o-2 : tie.Need-enum-known-o-2
+enum-known-o-2 c = search needs
+
+returns : tie.Need-returns
+returns c =
+    on-good _ (sym (ap operandOf (c .before .before .o .given .1)))
+    (rw (c .mode-of .ensures) (rw (toZ-ofZ (record { sfits = c .before .known-told .given .1 .0 .1 }))))
+
+returns-2 : tie.Need-returns-2
+returns-2 c = on-bad _ (sym (ap operandOf (c .before .o2 .given .1)))
+
+pub chosen-spec : {M : Type 1} → statement M
+chosen-spec = tie.close (tie.spec enum-known-o mode-of-requires enum-known-o-2 returns returns-2)
