@@ -32,8 +32,8 @@ range-at cs first width i l =
 
 -- the field that the code reads as value i
 pub this-value : (s : List ℕ) (cs : List Column) (first width i q : ℕ) (vs : List ℤ) → i < width → i ≤ length vs
-  → int s 5 (getD cs (first + i) noColumn .lo) (getD cs (first + i) noColumn .hi) q ≡ valueAt s (rangesAt cs first width) (map (λ (v : ℤ). v) (take i vs)) q
+    → int s 5 (getD cs (first + i) noColumn .lo) (getD cs (first + i) noColumn .hi) q ≡ valueAt s (rangesAt cs first width) (map (λ (v : ℤ). v) (take i vs)) q
 this-value s cs first width i q vs l fit =
     sym (ap (λ (g : Range). int s 5 (g .lo) (g .hi) q) (range-at cs first width i l))
     ∙ ap (λ (k : ℕ). int s 5 (getD (rangesAt cs first width) k (record { lo = pos 0; hi = pos 0 }) .lo) (getD (rangesAt cs first width) k (record { lo = pos 0; hi = pos 0 }) .hi) q)
-      (sym (length-map (take i vs) (λ (v : ℤ). v) ∙ length-take-le i vs fit))
+    (sym (length-map (take i vs) (λ (v : ℤ). v) ∙ length-take-le i vs fit))

@@ -11,12 +11,14 @@ use Rattle.meaning.specs.Contents as M
 use Rattle.question.specs.Layout as L
 use Rattle.question.specs.Reader.{Outcome, bad, At, found, andThen, byte, int, upTo, rightAt, constantAt, sideOf, comparisonAt, height, keepAt, becomeAt, shiftAt}
 use Rattle.meaning.specs.Limits.{mostTokens, mostComparisons}
-use Rattle.question.specs.Held.{kindOf, tokenOf, conditionOf, columnOf, rowOf, modeOf, settingOf}
+use Rattle.question.specs.Held.{kindOf, tokenOf, conditionOf, columnOf, rowOf, modeOf, settingOf, changeOf, ChangeHeld}
 use Rattle.question.specs.declared.types.Answer.{Answer}
 use Rattle.question.specs.declared.types.Answer.the-variants.{Good, Refused}
 use Rattle.question.specs.declared.types.Condition.{Condition}
 use Rattle.question.specs.declared.types.Column.{Column}
 use Rattle.question.specs.declared.types.Row.{Row}
+use Rattle.question.specs.declared.types.Change.{Change}
+use Rattle.question.specs.declared.change.Deed.{Deed}
 use Rattle.question.specs.declared.rows.Line.{Line}
 use Rattle.question.specs.declared.modes.Operand.{Operand}
 use Rattle.question.specs.declared.modes.Operand.the-variants as operand
@@ -150,3 +152,14 @@ choiceAt s low high m p = cond (eqb m 0) (keepAt s p) (cond (eqb m 1) (becomeAt 
 -- n settings were read, and o is what 01 gives for them
 pub record SettingsRead (n : ℕ) (r : Settings) (o : Outcome (At (List M.Mode))) : Type 0 where
   pub meaning : listOf settingOf (r .answer) n (r .settings) (r .next) ≡ o
+
+-- ---- changes
+
+abbrev pub deedBy : Answer → ℕ → Change → ℕ → Outcome (At M.Change)
+deedBy Good width ch q = found (changeOf width ch) q
+deedBy (Refused m p) width ch q = bad m p
+
+-- a change of a table of so many columns was read, and o is what 01 gives for it
+pub record DeedRead (width : ℕ) (r : Deed) (o : Outcome (At M.Change)) : Type 0 where
+  pub meaning : deedBy (r .answer) width (r .change) (r .next) ≡ o
+  pub held : ChangeHeld (r .change)

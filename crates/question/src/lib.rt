@@ -1,4 +1,5 @@
 // Questions: the declared types, and the reader that gives every byte string its answer.
+pub mod change;
 pub mod condition;
 pub mod fields;
 pub mod modes;

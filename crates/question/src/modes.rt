@@ -5,9 +5,13 @@ ghost use mathlib.Core.List.{[]};
 ghost use Rattle.question.specs.Reader.{modeAt, many, andThen};
 ghost use Rattle.question.specs.Held.{modeOf};
 ghost use Rattle.question.specs.Pieces.{operandOf, operandsAt, modeNamed, choiceOf, chosenBy, choiceAt, SettingsRead};
-
-use crate::fields::{Byte, Number, byte_at, number_at};
-use crate::types::{Answer, Mode, Setting};
+use crate::fields::Byte;
+use crate::fields::Number;
+use crate::fields::byte_at;
+use crate::fields::number_at;
+use crate::types::Answer;
+use crate::types::Mode;
+use crate::types::Setting;
 
 // A mode's column byte and constant and the offset after them, or a refusal.
 pub enum Operand {
@@ -22,7 +26,16 @@ pub enum Choice {
 }
 
 // The column byte from `low` on and below `high`, else refusal n; the constant within lo..hi, else refusal m.
-fn operand_at(s: &[u8], n: u8, low: usize, high: usize, m: u8, lo: i32, hi: i32, p: usize) -> Operand
+fn operand_at(
+    s: &[u8],
+    n: u8,
+    low: usize,
+    high: usize,
+    m: u8,
+    lo: i32,
+    hi: i32,
+    p: usize,
+) -> Operand
     ensures { λ r. ⌜ operandOf r ≡ operandsAt (now (s .entry)) n low high m lo hi p ⌝ }
 {
     let b = byte_at(s, n, low, high, p);
@@ -64,7 +77,10 @@ fn choice_at(s: &[u8], low: usize, high: usize, m: u8, p: usize) -> Choice
     match m {
         0 => chosen(0, operand_at(s, 4, 255, 256, 4, 0, 0, p)),
         1 => chosen(1, operand_at(s, 4, 255, 256, 5, -2000000000, 2000000000, p)),
-        _ => chosen(2, operand_at(s, 7, low, high, 5, -2000000000, 2000000000, p)),
+        _ => chosen(
+            2,
+            operand_at(s, 7, low, high, 5, -2000000000, 2000000000, p),
+        ),
     }
 }
 

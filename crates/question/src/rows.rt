@@ -5,9 +5,11 @@ ghost use mathlib.Core.List.{[]};
 ghost use lib.ListN.{length};
 ghost use Rattle.question.specs.Reader.{rowAt, many};
 ghost use Rattle.question.specs.Pieces.{LineRead, LinesRead, rangesAt};
-
-use crate::fields::{Number, number_at};
-use crate::types::{Answer, Column, Row};
+use crate::fields::Number;
+use crate::fields::number_at;
+use crate::types::Answer;
+use crate::types::Column;
+use crate::types::Row;
 
 // One row's values and the next offset, or a refusal.
 pub struct Line {
@@ -56,7 +58,14 @@ pub struct Lines {
     pub next: usize,
 }
 
-pub fn rows_at(s: &[u8], columns: [Column; 8], first: usize, width: usize, n: usize, p: usize) -> Lines
+pub fn rows_at(
+    s: &[u8],
+    columns: [Column; 8],
+    first: usize,
+    width: usize,
+    n: usize,
+    p: usize,
+) -> Lines
     requires { ⌜ first + width ≤ 8 ⌝ }
     requires { ⌜ length columns ≡ 8 ⌝ }
     requires { ⌜ n ≤ 4 ⌝ }

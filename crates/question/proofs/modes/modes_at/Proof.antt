@@ -55,10 +55,11 @@ returns : tie.Need-returns Inv-loop μ-loop
 returns c =
     let w = c .before in
     let l = w .before .before .before .before in
-    record
-    { meaning =
-    going-bad _ _ _ _ _ _ _ _ (l .loop .inv) (w .before .before .before .loop-test .taken) _ _
-    (sym (ap choiceOf (w .choice2 .given .1)) ∙ w .before .before .mode-at .ensures) }
+    record {
+      meaning =
+          going-bad _ _ _ _ _ _ _ _ (l .loop .inv) (w .before .before .before .loop-test .taken) _ _
+          (sym (ap choiceOf (w .choice2 .given .1)) ∙ w .before .before .mode-at .ensures);
+    }
 
 returns-2 : tie.Need-returns-2 Inv-loop μ-loop
 returns-2 c = record { meaning = going-end _ _ _ _ _ _ _ _ (c .before .loop .inv) (c .loop-test .left) }

@@ -27,17 +27,17 @@ abbrev μ-loop : tie.MeasureT-loop
 
 -- what the code reads as a value is the field that 01 means
 field : (c : tie.After-number-at Inv-loop μ-loop)
-  → let l = c .before .before .before .before .before in
-  let a = l .before .before .args in
-  numberOf (c .number-at .result) ≡ valueAt (a .s .now) (rangesAt (a .t2) (a .first) (a .width)) (map (λ (v : ℤ). v) (take (l .loop .i) (l .loop .values))) (l .loop .next)
+    → let l = c .before .before .before .before .before in
+    let a = l .before .before .args in
+    numberOf (c .number-at .result) ≡ valueAt (a .s .now) (rangesAt (a .t2) (a .first) (a .width)) (map (λ (v : ℤ). v) (take (l .loop .i) (l .loop .values))) (l .loop .next)
 field c =
     let l = c .before .before .before .before .before in
     let a = l .before .before .args in
     let inside = c .before .before .before .before .loop-test .taken in
     c .number-at .ensures
     ∙ rw (toZ-ofZ (record { sfits = c .before .struct-told2 .given .0 .1 }), toZ-ofZ (record { sfits = c .before .struct-told2 .given .1 .0 .1 }))
-      (this-value (a .s .now) (a .t2) (a .first) (a .width) (l .loop .i) (l .loop .next) (l .loop .values) inside
-      (omega (arith, l .loop .inv .sized, l .before .before .pre .0, inside)))
+    (this-value (a .s .now) (a .t2) (a .first) (a .width) (l .loop .i) (l .loop .next) (l .loop .values) inside
+    (omega (arith, l .loop .inv .sized, l .before .before .pre .0, inside)))
 
 loop-holds : tie.Need-loop-holds Inv-loop μ-loop
 loop-holds c = going-start _ _ 8 _ _ _ refl
@@ -88,21 +88,23 @@ returns c =
     let n = v .before .before in
     let l = n .before .before .before .before .before in
     let a = l .before .before .args in
-    record
-    { meaning =
-    rw (ranges-length (a .t2) (a .first) (a .width) (omega (arith, l .before .before .pre .0, l .before .before .pre .1)))
-    (going-bad _ _ _ _ _ _ _ _ (l .loop .inv) (n .before .before .before .before .loop-test .taken) _ _
-    (sym (ap numberOf (v .v2 .given .1)) ∙ field n)) }
+    record {
+      meaning =
+          rw (ranges-length (a .t2) (a .first) (a .width) (omega (arith, l .before .before .pre .0, l .before .before .pre .1)))
+          (going-bad _ _ _ _ _ _ _ _ (l .loop .inv) (n .before .before .before .before .loop-test .taken) _ _
+          (sym (ap numberOf (v .v2 .given .1)) ∙ field n));
+    }
 
 returns-2 : tie.Need-returns-2 Inv-loop μ-loop
 unfolding rowAt
 returns-2 c =
     let l = c .before in
     let a = l .before .before .args in
-    record
-    { meaning =
-    rw (ranges-length (a .t2) (a .first) (a .width) (omega (arith, l .before .before .pre .0, l .before .before .pre .1)))
-    (rw map-id at (going-end _ _ _ _ _ _ _ _ (l .loop .inv) (c .loop-test .left))) }
+    record {
+      meaning =
+          rw (ranges-length (a .t2) (a .first) (a .width) (omega (arith, l .before .before .pre .0, l .before .before .pre .1)))
+          (rw map-id at (going-end _ _ _ _ _ _ _ _ (l .loop .inv) (c .loop-test .left)));
+    }
 
 pub row-at-spec : {M : Type 1} → statement M
 row-at-spec =

@@ -60,10 +60,11 @@ returns c =
     let r = t .before .before in
     let l = r .before .before in
     let line = r .row-at .result in
-    record
-    { meaning =
-    going-bad _ _ _ _ _ _ _ _ (l .loop .inv) (r .before .loop-test .taken) _ _
-    (sym (ap (λ (a : Answer). lineBy a (l .before .before .args .width) (line .row) (line .next)) (t .answer .given .1)) ∙ r .row-at .ensures .meaning) }
+    record {
+      meaning =
+          going-bad _ _ _ _ _ _ _ _ (l .loop .inv) (r .before .loop-test .taken) _ _
+          (sym (ap (λ (a : Answer). lineBy a (l .before .before .args .width) (line .row) (line .next)) (t .answer .given .1)) ∙ r .row-at .ensures .meaning);
+    }
 
 returns-2 : tie.Need-returns-2 Inv-loop μ-loop
 returns-2 c = record { meaning = going-end _ _ _ _ _ _ _ _ (c .before .loop .inv) (c .loop-test .left) }

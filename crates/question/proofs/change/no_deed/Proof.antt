@@ -1,0 +1,17 @@
+use mathlib.Core.Path.{refl}
+use native.Mathlib.Omega.{arith}
+use borrow.Author.Needs.{needs}
+use Rattle.question.proofs.change.no_deed.Statement.{statement}
+use Rattle.question.proofs.change.no_deed.Tie as tie
+use Rattle.question.proofs.change.no_deed.Reads as reads
+use Rattle.question.proofs.change.no_deed.Lts as lts
+use Rattle.question.proofs.condition.always.Reads as always-reads
+
+always-requires : tie.Need-always-requires
+always-requires c κs = search needs
+
+returns : tie.Need-returns
+returns c = λ width. record { meaning = refl; held = record { fewRows = omega arith; fewTokens = omega (arith, c .always .ensures) } }
+
+pub no-deed-spec : {M : Type 1} → statement M
+no-deed-spec = tie.close (tie.spec always-requires returns)
