@@ -10,3 +10,8 @@ pub mod Changes
 pub mod Accepts
 pub mod RowRun
 pub mod ModeLaws
+pub mod Judges
+pub mod PieceJudges
+pub mod QuestionJudges
+pub mod Refusals
+pub mod Uniques

@@ -3,3 +3,5 @@ pub mod Reader
 pub mod Held
 pub mod Pieces
 pub mod Accepted
+pub mod Fields
+pub mod Faults
