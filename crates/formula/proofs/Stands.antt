@@ -1,12 +1,11 @@
 -- The end of the crate's argument: for each formula, rows in range that meet the trouble formula give an assignment in range that makes
 -- the program true, and back. So a program that no assignment in range makes true is a trouble formula that fails on all rows in range.
-use Prim.Native.Nat.{ℕ, zero, suc, _<_}
+use Prim.Native.Nat.{ℕ}
 use mathlib.Core.Path.{_≡_, refl, sym, ap, _∙_, subst}
 use mathlib.Core.Logic.{_↔_}
 use mathlib.Core.Bool.{Bool, true, false}
 use mathlib.Core.List.{List, [], _∷_, append-nil}
 use native.Mathlib.Omega.{arith}
-use lib.ListN.{length, getD}
 use lib.Dec.{T}
 use Rattle.meaning.specs.Condition.{Row}
 use Rattle.meaning.specs.Contents.{Question, columns, look, fits, part}
@@ -88,11 +87,3 @@ module _ (q : Question) where
 
   pub never-exactly : Usable q → (asked : ℕ) → Every Never (formulas q asked) ↔ AllFail q (troubles q asked)
   never-exactly k asked = never-all k (troubles q asked) (formulas q asked) (formulas-agree q k asked)
-
-  -- position by position
-  pub agree-at : (φs : List trouble.Formula) (Fs : List Formula) → AgreeAll q φs Fs → (i : ℕ) → i < length Fs → (φ : trouble.Formula) (F : Formula) → (i < length φs) × Agrees q (getD φs i φ) (getD Fs i F)
-  agree-at [] [] a i h φ F = absurd (omega arith)
-  agree-at [] (G ∷ Fs) a i h φ F = absurd a
-  agree-at (ψ ∷ φs) [] a i h φ F = absurd a
-  agree-at (ψ ∷ φs) (G ∷ Fs) a zero h φ F = (omega arith, a .0)
-  agree-at (ψ ∷ φs) (G ∷ Fs) a (suc i) h φ F = let r = agree-at φs Fs (a .1) i (omega arith) φ F in (omega (arith, r .0), r .1)

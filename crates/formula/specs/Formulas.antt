@@ -23,10 +23,10 @@ pub record Formula : Type 0 where
 
 -- ---- which term stands for a column
 
--- "1+i column i of the first row"
 abbrev pub vertex : ℕ → Term
 vertex v = record { vertex = v; offset = pos 0 }
 
+-- "1+i column i of the first row"
 abbrev pub firstSight : Sight
 firstSight i = vertex (suc i)
 
