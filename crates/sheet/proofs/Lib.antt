@@ -24,3 +24,5 @@ pub mod Cycles
 pub mod Branches
 pub mod Bounds
 pub mod Twelves
+pub mod Positions
+pub mod Columns
