@@ -26,3 +26,4 @@ pub mod Bounds
 pub mod Twelves
 pub mod Positions
 pub mod Columns
+pub mod Demands
