@@ -16,6 +16,7 @@ fn main() {
     }
     println!("cargo::rustc-link-search=native={}", folder.display());
     println!("cargo::rustc-link-lib=static=capi");
+    println!("cargo::rustc-env=LIBCAPI={}", archive.display());
 }
 
 fn missing(archive: &Path) {
