@@ -21,6 +21,8 @@ fn main() {
 
 fn missing(archive: &Path) {
     println!("cargo::error=there is no {}", archive.display());
-    println!("cargo::error=run `make lib` in the project's root (that is `rt staticlib capi`), then try again");
+    println!(
+        "cargo::error=run `make lib` in the project's root (that is `rt staticlib capi`), then try again"
+    );
     println!("cargo::error=or name the folder of another libcapi.a in SLUSHTROWEL_LIB");
 }

@@ -83,12 +83,7 @@ fn some_question(chance: &mut Chance) -> Vec<u8> {
 }
 
 /// A question that both must refuse.
-fn refused(
-    chance: &mut Chance,
-    asked: u8,
-    bytes: &[u8],
-    tally: &mut Tally,
-) -> Result<(), Difference> {
+fn refused(chance: &mut Chance, asked: u8, bytes: &[u8], tally: &mut Tally) -> Result<(), Difference> {
     let right = oracle::verdict(asked, bytes);
     let answer = library::verdict(asked, bytes);
     tally.note(&answer);
@@ -113,14 +108,7 @@ pub fn accepted(
     tally.note(&answer);
     same("verdict", asked, &bytes, &answer, &Ok(worked.verdict))?;
     for length in room_lengths(chance, worked.length) {
-        room(
-            chance,
-            asked,
-            &bytes,
-            length,
-            |room| oracle::fill(worked, room),
-            tally,
-        )?;
+        room(chance, asked, &bytes, length, |room| oracle::fill(worked, room), tally)?;
     }
     sheet(asked, &bytes, &worked.bytes, tally)?;
     let other = other_sheet(chance, question, asked, worked);
@@ -154,9 +142,7 @@ fn room(
     tally: &mut Tally,
 ) -> Result<(), Difference> {
     const AROUND: usize = 16;
-    let mut ours: Vec<u8> = (0..length + 2 * AROUND)
-        .map(|_| chance.below(256) as u8)
-        .collect();
+    let mut ours: Vec<u8> = (0..length + 2 * AROUND).map(|_| chance.below(256) as u8).collect();
     let mut theirs = ours.clone();
     let inner = AROUND..AROUND + length;
     let right = write(&mut ours[inner.clone()]);
@@ -165,13 +151,7 @@ fn room(
     tally.note(&answer);
     let name = format!("write to {length} bytes");
     same(&name, asked, bytes, &answer, &right)?;
-    same(
-        &format!("the room after {name}"),
-        asked,
-        bytes,
-        &theirs,
-        &ours,
-    )
+    same(&format!("the room after {name}"), asked, bytes, &theirs, &ours)
 }
 
 /// Both check the sheet.
@@ -180,13 +160,7 @@ fn sheet(asked: u8, bytes: &[u8], sheet: &[u8], tally: &mut Tally) -> Result<(),
     let answer = library::check(asked, bytes, sheet);
     tally.sheets += 1;
     tally.note(&answer);
-    same(
-        &format!("check of {}", hex(sheet)),
-        asked,
-        bytes,
-        &answer,
-        &right,
-    )
+    same(&format!("check of {}", hex(sheet)), asked, bytes, &answer, &right)
 }
 
 fn same<T: PartialEq + std::fmt::Debug>(
@@ -200,7 +174,5 @@ fn same<T: PartialEq + std::fmt::Debug>(
         return Ok(());
     }
     let question = hex(question);
-    Err(format!(
-        "{what}\n  asked {asked}, question {question}\n  library {library:?}\n  right   {right:?}"
-    ))
+    Err(format!("{what}\n  asked {asked}, question {question}\n  library {library:?}\n  right   {right:?}"))
 }

@@ -7,13 +7,7 @@
 use oracle::{Refusal, Verdict};
 
 extern "C" {
-    fn vu_verdict(
-        asked: u8,
-        question: *const u8,
-        n: usize,
-        verdict: *mut u8,
-        place: *mut u64,
-    ) -> u8;
+    fn vu_verdict(asked: u8, question: *const u8, n: usize, verdict: *mut u8, place: *mut u64) -> u8;
 
     fn vu_write(
         asked: u8,
@@ -43,15 +37,7 @@ const UNSET: (u8, u64) = (0xee, 0xeeee_eeee_eeee_eeee);
 pub fn verdict(asked: u8, question: &[u8]) -> Result<Verdict, Refusal> {
     let (mut said, mut place) = UNSET;
     // SAFETY: a slice is as many readable bytes as it says, never null; the results are our own.
-    let number = unsafe {
-        vu_verdict(
-            asked,
-            question.as_ptr(),
-            question.len(),
-            &mut said,
-            &mut place,
-        )
-    };
+    let number = unsafe { vu_verdict(asked, question.as_ptr(), question.len(), &mut said, &mut place) };
     let (verdict, nought) = outcome(number, said, place)?;
     assert_eq!(nought, 0, "a verdict has place 0");
     Ok(verdict)
@@ -80,15 +66,7 @@ pub fn check(asked: u8, question: &[u8], sheet: &[u8]) -> Result<Verdict, Refusa
     let (mut said, mut place) = UNSET;
     // SAFETY: as above.
     let number = unsafe {
-        vu_check(
-            asked,
-            question.as_ptr(),
-            question.len(),
-            sheet.as_ptr(),
-            sheet.len(),
-            &mut said,
-            &mut place,
-        )
+        vu_check(asked, question.as_ptr(), question.len(), sheet.as_ptr(), sheet.len(), &mut said, &mut place)
     };
     let (verdict, nought) = outcome(number, said, place)?;
     assert_eq!(nought, 0, "a passing sheet has place 0");
@@ -102,10 +80,7 @@ fn outcome(number: u8, said: u8, beside: u64) -> Result<(Verdict, usize), Refusa
         (0, 0) => Ok((Verdict::Yes, beside)),
         (0, 1) => Ok((Verdict::No, beside)),
         (0, _) => panic!("the verdict byte is {said}"),
-        (number, 255) => Err(Refusal {
-            number,
-            place: beside,
-        }),
+        (number, 255) => Err(Refusal { number, place: beside }),
         _ => panic!("refusal {number} leaves the verdict byte {said}"),
     }
 }

@@ -87,9 +87,7 @@ fn nine_vertices() -> Load {
     let mut questions = Vec::new();
     while questions.len() < 100 {
         let question = question(&mut chance);
-        let sizes = trouble(&question, 2)
-            .into_iter()
-            .map(|formula| 1 + formula.vertices.len());
+        let sizes = trouble(&question, 2).into_iter().map(|formula| 1 + formula.vertices.len());
         if sizes.max() == Some(9) {
             ask(&question, 500, &mut questions);
         }
@@ -98,17 +96,11 @@ fn nine_vertices() -> Load {
 }
 
 fn comparisons(count: usize) -> Load {
-    named(
-        &format!("6 columns, {count} comparisons a condition"),
-        grown(6, count),
-    )
+    named(&format!("6 columns, {count} comparisons a condition"), grown(6, count))
 }
 
 fn columns(count: usize) -> Load {
-    named(
-        &format!("{count} columns, 3 comparisons a condition"),
-        grown(count, 3),
-    )
+    named(&format!("{count} columns, 3 comparisons a condition"), grown(count, 3))
 }
 
 fn grown(columns: usize, comparisons: usize) -> Vec<Asked> {

@@ -45,10 +45,7 @@ fn mean(run: impl Fn() -> Option<f64>) -> Option<f64> {
 /// The processor seconds that a process or thread has used, by its folder in /proc.
 fn used(folder: &str) -> f64 {
     let text = read_to_string(format!("{folder}/schedstat")).expect("Linux tells processor times");
-    let nanoseconds = text
-        .split_whitespace()
-        .next()
-        .and_then(|word| word.parse::<f64>().ok());
+    let nanoseconds = text.split_whitespace().next().and_then(|word| word.parse::<f64>().ok());
     nanoseconds.expect("a number") / 1e9
 }
 
@@ -67,11 +64,7 @@ fn ours(load: &Load, verdict: impl Fn(u8, &[u8]) -> Result<Verdict, Refusal>) ->
 
 /// The time of a process with the whole load, less that of one with nothing to do.
 fn z3(load: &Load) -> Option<f64> {
-    let script: String = load
-        .questions
-        .iter()
-        .map(|asked| asked.script.as_str())
-        .collect();
+    let script: String = load.questions.iter().map(|asked| asked.script.as_str()).collect();
     let (answers, _) = run_z3(&script)?;
     hold(load, &answers);
     let idle = mean_of_ten(|| run_z3(""))?;
@@ -93,11 +86,7 @@ fn hold(load: &Load, answers: &str) {
             let open = asked.verdict == Verdict::No && at == asked.formulas;
             ["unsat", "sat"][usize::from(open)]
         });
-        assert!(
-            lines.into_iter().eq(right),
-            "z3 differs on {}",
-            describe(asked)
-        );
+        assert!(lines.into_iter().eq(right), "z3 differs on {}", describe(asked));
     }
 }
 
@@ -109,9 +98,7 @@ fn describe(asked: &Asked) -> String {
 /// z3's answers and processor seconds; nothing if it isn't installed.
 fn run_z3(script: &str) -> Option<(String, f64)> {
     let mut z3 = Command::new("z3");
-    z3.args(["-smt2", "-in"])
-        .stdin(Stdio::piped())
-        .stdout(Stdio::piped());
+    z3.args(["-smt2", "-in"]).stdin(Stdio::piped()).stdout(Stdio::piped());
     let mut child = z3.spawn().ok()?;
     let (mut input, mut output) = (child.stdin.take()?, child.stdout.take()?);
     let script = script.to_string();
@@ -121,10 +108,7 @@ fn run_z3(script: &str) -> Option<(String, f64)> {
     feeder.join().ok()?.ok()?;
     // it has ended but not been waited for: the kernel still knows its time
     let folder = format!("/proc/{}", child.id());
-    while !read_to_string(format!("{folder}/stat"))
-        .ok()?
-        .contains(") Z ")
-    {
+    while !read_to_string(format!("{folder}/stat")).ok()?.contains(") Z ") {
         std::thread::yield_now();
     }
     let seconds = used(&folder);

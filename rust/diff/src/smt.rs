@@ -7,15 +7,8 @@ use std::fmt::Write;
 pub fn script(formula: &Formula) -> String {
     let mut text = String::from("(push)\n");
     for vertex in &formula.vertices {
-        let (name, lo, hi) = (
-            vertex.number,
-            number(vertex.lo.into()),
-            number(vertex.hi.into()),
-        );
-        let _ = writeln!(
-            text,
-            "(declare-const x{name} Int)(assert (<= {lo} x{name} {hi}))"
-        );
+        let (name, lo, hi) = (vertex.number, number(vertex.lo.into()), number(vertex.hi.into()));
+        let _ = writeln!(text, "(declare-const x{name} Int)(assert (<= {lo} x{name} {hi}))");
     }
     let _ = writeln!(text, "(assert {})", part(formula, &formula.whole));
     text + "(check-sat)\n(pop)\n"

@@ -27,11 +27,7 @@ fn rounds(seed: u64, count: u64) -> Tally {
 fn ten_thousand_questions() {
     let tally = rounds(11, 10_000);
     for number in (0..=9).chain(11..=16).chain([20, 21]) {
-        assert!(
-            tally.answers.get(&number) > Some(&10),
-            "number {number}: {:?}",
-            tally.answers
-        );
+        assert!(tally.answers.get(&number) > Some(&10), "number {number}: {:?}", tally.answers);
     }
     assert!(tally.too_long < 500);
 }
@@ -74,12 +70,7 @@ fn whole(name: &str, question: &Question) -> String {
 fn cases_and_published_examples() {
     on_promised_stack(|| {
         for example in twelve().into_iter().chain(published()) {
-            assert_eq!(
-                whole(&example.name, &example.question),
-                example.right,
-                "{}",
-                example.name
-            );
+            assert_eq!(whole(&example.name, &example.question), example.right, "{}", example.name);
         }
     });
 }
@@ -99,10 +90,7 @@ fn recorded_answers() {
         let columns: Vec<&str> = line.split('\t').collect();
         let question = hex(columns[0]);
         if let Err(refusal) = read(&question) {
-            assert_eq!(
-                columns[1],
-                format!("refused {} {}", refusal.number, refusal.place)
-            );
+            assert_eq!(columns[1], format!("refused {} {}", refusal.number, refusal.place));
             assert_eq!(library::verdict(1, &question), Err(refusal));
             continue;
         }

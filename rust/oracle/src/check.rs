@@ -81,11 +81,7 @@ fn check_cycle(formula: &Formula, edges: &Edges, fields: &mut Fields) -> Result<
     Ok(edges.round_trip(&vertices).is_some_and(|sum| sum < 0))
 }
 
-fn check_rows(
-    question: &Question,
-    formulas: &[Formula],
-    fields: &mut Fields,
-) -> Result<(), Refusal> {
+fn check_rows(question: &Question, formulas: &[Formula], fields: &mut Fields) -> Result<(), Refusal> {
     let number = usize::from(fields.byte()?);
     let start = fields.start;
     fields.expect(number < formulas.len(), 14)?;

@@ -17,9 +17,7 @@ pub fn meets(condition: &[Token], value: impl Fn(usize) -> i32) -> bool {
     let mut stack: Vec<bool> = Vec::new();
     for token in condition {
         let truth = match token {
-            Token::Compare(op, left, right) => {
-                op.holds(i64::from(value(*left)), new_value(*right, &value))
-            }
+            Token::Compare(op, left, right) => op.holds(i64::from(value(*left)), new_value(*right, &value)),
             Token::Not => !stack.pop().expect("an operand"),
             Token::And | Token::Or => {
                 let right = stack.pop().expect("an operand");
@@ -118,9 +116,7 @@ pub fn computable(question: &Question, all: &[Contents]) -> bool {
     let mut new_lists: BTreeMap<List, List> = BTreeMap::new();
     all.iter().all(|contents| {
         let new = list(question, &after(question, contents));
-        let known = new_lists
-            .entry(list(question, contents))
-            .or_insert_with(|| new.clone());
+        let known = new_lists.entry(list(question, contents)).or_insert_with(|| new.clone());
         *known == new
     })
 }
@@ -134,8 +130,7 @@ pub fn all_contents(question: &Question, many: usize) -> Vec<Contents> {
         let sets = sets_of(&rows, most);
         let longer = |contents: &Contents| {
             let contents = contents.clone();
-            sets.iter()
-                .map(move |set| [&contents[..], slice::from_ref(set)].concat())
+            sets.iter().map(move |set| [&contents[..], slice::from_ref(set)].concat())
         };
         all = all.iter().flat_map(longer).collect();
     }
@@ -158,11 +153,7 @@ fn rows_in_range(columns: &[Column]) -> Vec<Row> {
 fn sets_of(rows: &[Row], most: usize) -> Vec<BTreeSet<Row>> {
     let mut sets = vec![BTreeSet::new()];
     for row in rows {
-        let room: Vec<_> = sets
-            .iter()
-            .filter(|set| set.len() < most)
-            .cloned()
-            .collect();
+        let room: Vec<_> = sets.iter().filter(|set| set.len() < most).cloned().collect();
         for mut set in room {
             set.insert(row.clone());
             sets.push(set);

@@ -28,12 +28,7 @@ impl<'a> Draft<'a> {
     /// The first row's columns.
     pub fn first(&self) -> Sight {
         let columns = 0..self.question.columns.len();
-        columns
-            .map(|i| Term {
-                vertex: 1 + i,
-                offset: 0,
-            })
-            .collect()
+        columns.map(|i| Term { vertex: 1 + i, offset: 0 }).collect()
     }
 
     /// The second row's columns: the hidden ones have vertices of their own.
@@ -81,11 +76,7 @@ impl<'a> Draft<'a> {
 
     /// `left − right ≤ slack` as the next place.
     fn place(&mut self, left: Term, right: Term, slack: i64) -> Part {
-        self.places.push(Place {
-            a: left.vertex,
-            b: right.vertex,
-            k: right.offset - left.offset + slack,
-        });
+        self.places.push(Place { a: left.vertex, b: right.vertex, k: right.offset - left.offset + slack });
         Part::Place(self.places.len() - 1)
     }
 
@@ -106,9 +97,7 @@ impl<'a> Draft<'a> {
         let mut stack = Vec::new();
         for token in condition {
             let part = match token {
-                Token::Compare(op, left, side) => {
-                    self.compare(*op, sight[*left], side_term(sight, *side))
-                }
+                Token::Compare(op, left, side) => self.compare(*op, sight[*left], side_term(sight, *side)),
                 Token::Not => not(pop(&mut stack)),
                 Token::And | Token::Or => {
                     let right = pop(&mut stack);
@@ -173,11 +162,7 @@ impl<'a> Draft<'a> {
     /// The formula: all parts together, over one row or two.
     pub fn done(self, parts: Vec<Part>, two: bool) -> Formula {
         let count = self.question.columns.len();
-        let vertex = |number, column: &Column| Vertex {
-            number,
-            lo: column.lo,
-            hi: column.hi,
-        };
+        let vertex = |number, column: &Column| Vertex { number, lo: column.lo, hi: column.hi };
         let mut vertices = Vec::new();
         for (i, column) in self.question.columns.iter().enumerate() {
             vertices.push(vertex(1 + i, column));
@@ -186,13 +171,7 @@ impl<'a> Draft<'a> {
             }
         }
         vertices.sort_by_key(|vertex| vertex.number);
-        Formula {
-            places: self.places,
-            whole: Part::All(parts),
-            vertices,
-            two,
-            inserted: None,
-        }
+        Formula { places: self.places, whole: Part::All(parts), vertices, two, inserted: None }
     }
 }
 
@@ -201,9 +180,7 @@ pub fn not(part: Part) -> Part {
 }
 
 fn pop(stack: &mut Vec<Part>) -> Part {
-    stack
-        .pop()
-        .expect("the reader passes no token that lacks an operand")
+    stack.pop().expect("the reader passes no token that lacks an operand")
 }
 
 pub fn constant(value: i32) -> Term {
@@ -214,9 +191,8 @@ pub fn constant(value: i32) -> Term {
 fn side_term(sight: &Sight, side: Side) -> Term {
     match side {
         Side::Constant(value) => constant(value),
-        Side::Column(column, plus) => Term {
-            vertex: sight[column].vertex,
-            offset: sight[column].offset + i64::from(plus),
-        },
+        Side::Column(column, plus) => {
+            Term { vertex: sight[column].vertex, offset: sight[column].offset + i64::from(plus) }
+        }
     }
 }

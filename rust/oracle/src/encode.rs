@@ -27,10 +27,7 @@ fn tokens(condition: &[Token]) -> Vec<u8> {
     for token in condition {
         match token {
             Token::Compare(op, left, right) => {
-                let op = OPS
-                    .iter()
-                    .position(|known| known == op)
-                    .unwrap_or(OPS.len());
+                let op = OPS.iter().position(|known| known == op).unwrap_or(OPS.len());
                 bytes.extend([1, op as u8 + 1, *left as u8]);
                 bytes.extend(side(*right));
             }

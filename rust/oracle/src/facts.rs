@@ -39,10 +39,7 @@ impl Edges {
     /// The sum along the vertices and back to the first, if every edge is there.
     pub fn round_trip(&self, vertices: &[usize]) -> Option<i64> {
         let ends = vertices.iter().cycle().skip(1);
-        let weights = vertices
-            .iter()
-            .zip(ends)
-            .map(|(&from, &to)| self.weight(from, to));
+        let weights = vertices.iter().zip(ends).map(|(&from, &to)| self.weight(from, to));
         weights.sum()
     }
 
@@ -82,11 +79,7 @@ impl Edges {
     }
 
     /// From `start`, always on to the least vertex from which the walk can still close below zero.
-    fn least_list(
-        &self,
-        walks: &[[[i64; MOST_VERTICES]; MOST_VERTICES]],
-        start: usize,
-    ) -> Vec<usize> {
+    fn least_list(&self, walks: &[[[i64; MOST_VERTICES]; MOST_VERTICES]], start: usize) -> Vec<usize> {
         let mut list = vec![start];
         let (mut at, mut sum) = (start, 0);
         for rest in walks[..walks.len() - 1].iter().rev() {
@@ -94,9 +87,7 @@ impl Edges {
                 Some(weight) if rest[to][start] != NONE => sum + weight + rest[to][start] < 0,
                 _ => false,
             };
-            let to = (0..MOST_VERTICES)
-                .find(closes)
-                .expect("a walk of this length closes below zero");
+            let to = (0..MOST_VERTICES).find(closes).expect("a walk of this length closes below zero");
             sum += self.weights[at][to];
             at = to;
             list.push(to);

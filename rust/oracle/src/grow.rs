@@ -17,12 +17,7 @@ pub struct Page {
 impl Page {
     /// An empty page.
     pub fn new(cap: usize) -> Self {
-        Page {
-            bytes: Vec::new(),
-            length: 0,
-            nodes: 0,
-            cap,
-        }
+        Page { bytes: Vec::new(), length: 0, nodes: 0, cap }
     }
 
     /// One byte more.
@@ -45,12 +40,7 @@ pub enum Stop {
 /// Writes the tree of one formula, of at most `most_nodes` nodes on the page.
 pub fn grow(formula: &Formula, page: &mut Page, most_nodes: u64) -> Result<(), Stop> {
     let facts = Ok(Solved::of_ranges(formula));
-    let mut grower = Grower {
-        formula,
-        page,
-        most_nodes,
-        decided: Vec::new(),
-    };
+    let mut grower = Grower { formula, page, most_nodes, decided: Vec::new() };
     grower.node(facts)
 }
 
@@ -80,9 +70,7 @@ impl Grower<'_> {
     }
 
     fn cycle(&mut self, edges: &Edges) {
-        let list = edges
-            .shortest_negative()
-            .expect("there is a cycle below zero");
+        let list = edges.shortest_negative().expect("there is a cycle below zero");
         self.page.put(2);
         self.page.put(list.len() as u8);
         for vertex in list {

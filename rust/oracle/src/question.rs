@@ -37,14 +37,7 @@ pub enum Op {
 }
 
 /// The operators in the order of their bytes 1 to 6.
-pub const OPS: [Op; 6] = [
-    Op::Less,
-    Op::AtMost,
-    Op::Equal,
-    Op::AtLeast,
-    Op::More,
-    Op::Unequal,
-];
+pub const OPS: [Op; 6] = [Op::Less, Op::AtMost, Op::Equal, Op::AtLeast, Op::More, Op::Unequal];
 
 impl Op {
     /// Whether `left op right`.

@@ -17,13 +17,7 @@ pub fn read(bytes: &[u8]) -> Result<Question, Refusal> {
     let widths = read_widths(&mut fields, tables)?;
     let columns = read_columns(&mut fields, widths.iter().sum())?;
     let condition = read_condition(&mut fields, 0..columns.len())?;
-    let mut question = Question {
-        widths,
-        changed,
-        columns,
-        condition,
-        change: Change::Insert(Vec::new()),
-    };
+    let mut question = Question { widths, changed, columns, condition, change: Change::Insert(Vec::new()) };
     question.change = read_change(&mut fields, kind, &question)?;
     if !fields.at_end() {
         return refuse(9, fields.next);
@@ -90,10 +84,7 @@ fn read_comparison(fields: &mut Fields, columns: &Range<usize>) -> Result<Token,
     let op = OPS[usize::from(fields.within(1, 6, 6)?) - 1];
     let left = read_column(fields, columns)?;
     let right = fields.byte()?;
-    fields.expect(
-        right == NO_COLUMN || columns.contains(&usize::from(right)),
-        7,
-    )?;
+    fields.expect(right == NO_COLUMN || columns.contains(&usize::from(right)), 7)?;
     let constant = read_constant(fields)?;
     let side = if right == NO_COLUMN {
         Side::Constant(constant)

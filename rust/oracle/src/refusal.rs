@@ -29,12 +29,7 @@ impl<'a> Fields<'a> {
     /// Starts at offset 0; `short` is the number for a field that runs past the end.
     pub fn new(bytes: &'a [u8], short: u8) -> Self {
         let (next, start) = (0, 0);
-        Fields {
-            bytes,
-            next,
-            start,
-            short,
-        }
+        Fields { bytes, next, start, short }
     }
 
     /// The next field of `N` bytes.

@@ -60,12 +60,7 @@ fn open_sheet(page: &mut Page, asked: u8, verdict: Verdict) {
 }
 
 fn finished(verdict: Verdict, page: Page) -> Worked {
-    Worked {
-        verdict,
-        bytes: page.bytes,
-        length: page.length,
-        nodes: page.nodes,
-    }
+    Worked { verdict, bytes: page.bytes, length: page.length, nodes: page.nodes }
 }
 
 /// The rows of the greatest solution.

@@ -56,11 +56,7 @@ impl Sketch {
     }
 
     fn with(&self, changed: usize, change: Change) -> Question {
-        Question {
-            changed,
-            change,
-            ..self.question.clone()
-        }
+        Question { changed, change, ..self.question.clone() }
     }
 
     fn column(&mut self, text: &str) {
@@ -80,9 +76,7 @@ impl Sketch {
     }
 
     fn condition(&self, text: &str) -> Condition {
-        text.split_whitespace()
-            .map(|word| self.token(word))
-            .collect()
+        text.split_whitespace().map(|word| self.token(word)).collect()
     }
 
     fn token(&self, word: &str) -> Token {
@@ -101,10 +95,7 @@ impl Sketch {
             _ => {}
         }
         let split = |(sign, op): &(&str, Op)| word.split_once(sign).map(|sides| (*op, sides));
-        let (op, (left, right)) = SIGNS
-            .iter()
-            .find_map(split)
-            .expect("a comparison has a sign");
+        let (op, (left, right)) = SIGNS.iter().find_map(split).expect("a comparison has a sign");
         Token::Compare(op, self.number(left), self.side(right))
     }
 
@@ -120,6 +111,5 @@ impl Sketch {
 }
 
 fn number(text: &str) -> i32 {
-    text.parse()
-        .unwrap_or_else(|_| panic!("{text} is no number"))
+    text.parse().unwrap_or_else(|_| panic!("{text} is no number"))
 }

@@ -13,12 +13,9 @@ pub fn trouble(question: &Question, asked: u8) -> Vec<Formula> {
         (Change::Delete(d), 1) => vec![deleted(question, d)],
         (Change::Delete(d), _) => vec![deleted_pair(question, d)],
         (Change::Modify(..), 1) => vec![leaves(question), enters(question), moves(question)],
-        (Change::Modify(..), _) => vec![
-            enters(question),
-            stays_or_goes(question),
-            part_ways(question),
-            parts_from_kept(question),
-        ],
+        (Change::Modify(..), _) => {
+            vec![enters(question), stays_or_goes(question), part_ways(question), parts_from_kept(question)]
+        }
     }
 }
 
@@ -47,12 +44,7 @@ fn deleted(question: &Question, d: &[Token]) -> Formula {
 fn deleted_pair(question: &Question, d: &[Token]) -> Formula {
     let mut draft = Draft::new(question);
     let (one, two) = (draft.first(), draft.second());
-    let parts = vec![
-        draft.c(&one),
-        draft.c(&two),
-        draft.condition(d, &one),
-        not(draft.condition(d, &two)),
-    ];
+    let parts = vec![draft.c(&one), draft.c(&two), draft.condition(d, &one), not(draft.condition(d, &two))];
     draft.done(parts, true)
 }
 
@@ -77,12 +69,7 @@ fn moves(question: &Question) -> Formula {
     let mut draft = Draft::new(question);
     let row = draft.first();
     let after = draft.after(&row);
-    let parts = vec![
-        draft.m(&row),
-        draft.c(&row),
-        draft.c_after(&row),
-        draft.differ(&after, &row),
-    ];
+    let parts = vec![draft.m(&row), draft.c(&row), draft.c_after(&row), draft.differ(&after, &row)];
     draft.done(parts, false)
 }
 
@@ -90,12 +77,7 @@ fn moves(question: &Question) -> Formula {
 fn stays_or_goes(question: &Question) -> Formula {
     let mut draft = Draft::new(question);
     let (one, two) = (draft.first(), draft.second());
-    let parts = vec![
-        draft.c(&one),
-        draft.c(&two),
-        draft.s(&one),
-        not(draft.s(&two)),
-    ];
+    let parts = vec![draft.c(&one), draft.c(&two), draft.s(&one), not(draft.s(&two))];
     draft.done(parts, true)
 }
 

@@ -6,10 +6,7 @@ use oracle::sheet::{work, Verdict};
 use oracle::Question;
 
 fn said(question: &Question, asked: u8) -> bool {
-    work(question, asked, 0, u64::MAX)
-        .expect("no limit")
-        .verdict
-        == Verdict::Yes
+    work(question, asked, 0, u64::MAX).expect("no limit").verdict == Verdict::Yes
 }
 
 #[test]
@@ -20,20 +17,13 @@ fn verdicts_follow_the_definitions() {
         let question = tiny(&mut chance);
         let all = all_contents(&question, 4);
         let right = [irrelevant(&question, &all), computable(&question, &all)];
-        assert_eq!(
-            [said(&question, 1), said(&question, 2)],
-            right,
-            "round {round}: {question:?}"
-        );
+        assert_eq!([said(&question, 1), said(&question, 2)], right, "round {round}: {question:?}");
         counts[usize::from(right[0])][usize::from(right[1])] += 1;
     }
     // each pair that can be, often; an irrelevant change is always computable
     let [[neither, computable], [impossible, irrelevant]] = counts;
     assert_eq!(impossible, 0);
-    assert!(
-        neither > 300 && computable > 300 && irrelevant > 300,
-        "{counts:?}"
-    );
+    assert!(neither > 300 && computable > 300 && irrelevant > 300, "{counts:?}");
 }
 
 #[test]
@@ -49,10 +39,7 @@ fn rows_of_a_no_sheet_break_the_claim() {
             if worked.verdict == Verdict::No {
                 let number = |four: &[u8]| i32::from_le_bytes(four.try_into().expect("four bytes"));
                 let values: Vec<i32> = worked.bytes[8..].chunks(4).map(number).collect();
-                let rows: Vec<_> = values
-                    .chunks(question.columns.len())
-                    .map(|row| row.to_vec())
-                    .collect();
+                let rows: Vec<_> = values.chunks(question.columns.len()).map(|row| row.to_vec()).collect();
                 assert!(breaks(&question, asked, &rows), "{question:?}");
                 shown += 1;
             }

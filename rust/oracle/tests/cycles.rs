@@ -8,11 +8,7 @@ const VERTICES: usize = 4;
 
 /// A formula with the vertices 1 to 3, each 0..=4, and nothing to say.
 fn blank() -> Formula {
-    let vertex = |number| Vertex {
-        number,
-        lo: 0,
-        hi: 4,
-    };
+    let vertex = |number| Vertex { number, lo: 0, hi: 4 };
     Formula {
         places: Vec::new(),
         whole: Part::All(Vec::new()),
@@ -27,20 +23,14 @@ fn lists(length: usize) -> Vec<Vec<usize>> {
     if length == 0 {
         return vec![Vec::new()];
     }
-    let longer =
-        |list: Vec<usize>| (0..VERTICES).map(move |vertex| [&list[..], &[vertex]].concat());
+    let longer = |list: Vec<usize>| (0..VERTICES).map(move |vertex| [&list[..], &[vertex]].concat());
     lists(length - 1).into_iter().flat_map(longer).collect()
 }
 
 /// Every solution within the ranges.
 fn solutions(facts: &[(usize, usize, i64)]) -> Vec<[i64; VERTICES]> {
     let all = (0..125).map(|n| [0, n % 5, n / 5 % 5, n / 25]);
-    all.filter(|values| {
-        facts
-            .iter()
-            .all(|&(from, to, weight)| values[to] - values[from] <= weight)
-    })
-    .collect()
+    all.filter(|values| facts.iter().all(|&(from, to, weight)| values[to] - values[from] <= weight)).collect()
 }
 
 #[test]
@@ -69,16 +59,10 @@ fn plain_search_agrees() {
         assert_eq!(all.is_empty(), first.is_some());
         assert_eq!(all.is_empty(), solved.is_none());
         if let Some(solved) = solved {
-            let greatest: Vec<i64> = (0..VERTICES)
-                .map(|vertex| solved.greatest(vertex))
-                .collect();
+            let greatest: Vec<i64> = (0..VERTICES).map(|vertex| solved.greatest(vertex)).collect();
             assert!(all.iter().any(|solution| solution[..] == greatest[..]));
-            let under = |solution: &[i64; VERTICES]| {
-                solution
-                    .iter()
-                    .zip(&greatest)
-                    .all(|(one, most)| one <= most)
-            };
+            let under =
+                |solution: &[i64; VERTICES]| solution.iter().zip(&greatest).all(|(one, most)| one <= most);
             assert!(all.iter().all(under));
         }
     }

@@ -19,12 +19,9 @@ fn described(example: &Example, asked: u8) -> String {
     let worked = work(&example.question, asked, usize::MAX, u64::MAX).expect("no limit");
     let mut text = format!("{} {}", word(worked.verdict), worked.length);
     if worked.verdict == Verdict::No {
-        let number =
-            |four: &[u8]| i32::from_le_bytes(four.try_into().expect("four bytes")).to_string();
+        let number = |four: &[u8]| i32::from_le_bytes(four.try_into().expect("four bytes")).to_string();
         let values: Vec<String> = worked.bytes[8..].chunks(4).map(number).collect();
-        let rows = values
-            .chunks(example.question.columns.len())
-            .map(|row| row.join(","));
+        let rows = values.chunks(example.question.columns.len()).map(|row| row.join(","));
         let rows = rows.collect::<Vec<String>>().join(" / ");
         text += &format!(" f{} {rows}", worked.bytes[7]);
     }
@@ -43,11 +40,7 @@ fn verdicts_are_right() {
 #[test]
 fn only_example_4_5_differs() {
     let all = published();
-    let differing: Vec<&str> = all
-        .iter()
-        .filter(|e| e.differs())
-        .map(|e| e.name.as_str())
-        .collect();
+    let differing: Vec<&str> = all.iter().filter(|e| e.differs()).map(|e| e.name.as_str()).collect();
     assert_eq!(differing, ["000-4.5"]);
     let silent = |e: &&Example| e.report == "-/-" || e.differs();
     assert!(all.iter().filter(silent).all(|e| !e.why.is_empty()));
@@ -59,12 +52,7 @@ fn second_opinion() {
     for line in OPINION.lines() {
         let columns: Vec<&str> = line.split('\t').collect();
         let example = all.iter().find(|e| e.name == columns[0]).expect(columns[0]);
-        assert_eq!(
-            hex(&encode(&example.question)),
-            columns[1],
-            "{}",
-            columns[0]
-        );
+        assert_eq!(hex(&encode(&example.question)), columns[1], "{}", columns[0]);
         assert_eq!(described(example, 1), columns[2], "{}", columns[0]);
         assert_eq!(described(example, 2), columns[3], "{}", columns[0]);
     }
@@ -75,10 +63,7 @@ fn appendix_b() {
     let all = load();
     let count = |star: bool| all.iter().filter(|e| e.name.ends_with('*') == star).count();
     assert_eq!((count(false), count(true)), (35, 32));
-    let longest = all
-        .iter()
-        .find(|e| e.name == "U11 PartOrder*")
-        .expect("U11");
+    let longest = all.iter().find(|e| e.name == "U11 PartOrder*").expect("U11");
     let worked = work(&longest.question, 2, usize::MAX, u64::MAX).expect("no limit");
     assert_eq!((worked.length, worked.nodes), (2_632, 1_470));
 }
@@ -86,29 +71,19 @@ fn appendix_b() {
 /// Section 3.4's cycle 0, L, K stands in the sheet of the row (14,32).
 #[test]
 fn published_cycle() {
-    let sheet = [
-        0x56, 0x55, 0x53, 1, 0, 1, 0, 3, 3, 3, 3, 3, 2, 3, 0, 5, 4, 1, 1, 1, 1, 1,
-    ];
+    let sheet = [0x56, 0x55, 0x53, 1, 0, 1, 0, 3, 3, 3, 3, 3, 2, 3, 0, 5, 4, 1, 1, 1, 1, 1];
     let all = published();
-    let example = all
-        .iter()
-        .find(|e| e.name == "002-3.5 ins 14,32")
-        .expect("the row");
+    let example = all.iter().find(|e| e.name == "002-3.5 ins 14,32").expect("the row");
     let worked = work(&example.question, 1, usize::MAX, u64::MAX).expect("no limit");
     assert_eq!(worked.bytes, sheet);
-    assert_eq!(
-        check(1, &encode(&example.question), &sheet),
-        Ok(Verdict::Yes)
-    );
+    assert_eq!(check(1, &encode(&example.question), &sheet), Ok(Verdict::Yes));
 }
 
 /// The table in the notes is what `questions table` prints.
 #[test]
 fn the_notes_show_every_example() {
     let notes = include_str!("../../../docs/notes/published.md");
-    let (_, table) = notes
-        .split_once("|---|---|---|---|---|\n")
-        .expect("a table");
+    let (_, table) = notes.split_once("|---|---|---|---|---|\n").expect("a table");
     let rows: Vec<&str> = table.lines().collect();
     let all = published();
     assert_eq!(rows.len(), all.len());

@@ -56,10 +56,8 @@ fn twelve_witnesses() {
 fn case_a_in_bytes() {
     let a = case("a");
     assert_eq!(a.len(), 73);
-    let whole = [
-        0x56, 0x55, 0x53, 0x01, 0x00, 0x01, 0x00, 0x03, 0x03, 0x03, 0x02, 0x01, 0x00, 0x01, 0x01,
-        0x01,
-    ];
+    let whole =
+        [0x56, 0x55, 0x53, 0x01, 0x00, 0x01, 0x00, 0x03, 0x03, 0x03, 0x02, 0x01, 0x00, 0x01, 0x01, 0x01];
     assert_eq!(sheet(&a, 1), whole);
     assert_eq!(sheet(&a, 2).len(), 16);
     let refused = |number, place| Err(Refusal { number, place });
@@ -82,10 +80,7 @@ fn shortcuts_that_are_wrong() {
 #[test]
 fn asked_comes_first() {
     for asked in (0..=255).filter(|asked| ![1, 2].contains(asked)) {
-        let refused = Refusal {
-            number: 20,
-            place: 0,
-        };
+        let refused = Refusal { number: 20, place: 0 };
         let mut room = [5; 9];
         assert_eq!(verdict(asked, &[]), Err(refused));
         assert_eq!(write(asked, &case("a"), &mut room), Err(refused));
@@ -104,13 +99,7 @@ fn rooms_of_every_length() {
                 let mut room = vec![0xa5; length];
                 let written = write(asked, &bytes, &mut room);
                 if length < whole.len() {
-                    assert_eq!(
-                        written,
-                        Err(Refusal {
-                            number: 21,
-                            place: 0
-                        })
-                    );
+                    assert_eq!(written, Err(Refusal { number: 21, place: 0 }));
                     assert!(room.iter().all(|&byte| byte == 0));
                 } else {
                     assert_eq!(written.map(|(_, length)| length), Ok(whole.len()));
@@ -125,27 +114,17 @@ fn rooms_of_every_length() {
 #[test]
 fn a_refused_question_leaves_the_room() {
     let mut room = [7; 40];
-    assert_eq!(
-        write(1, &case("a")[..72], &mut room),
-        Err(Refusal {
-            number: 1,
-            place: 69
-        })
-    );
+    assert_eq!(write(1, &case("a")[..72], &mut room), Err(Refusal { number: 1, place: 69 }));
     assert_eq!(room, [7; 40]);
 }
 
 #[test]
 fn a_path_of_120_decisions() {
     let question = deepest();
-    let places = trouble(&question, 2)
-        .into_iter()
-        .map(|formula| formula.places.len());
+    let places = trouble(&question, 2).into_iter().map(|formula| formula.places.len());
     assert_eq!(places.max(), Some(120));
     let bytes = encode(&question);
     let sheet = sheet(&bytes, 2);
-    let branches = sheet[7..]
-        .windows(120)
-        .any(|run| run.iter().all(|&node| node == 3));
+    let branches = sheet[7..].windows(120).any(|run| run.iter().all(|&node| node == 3));
     assert!(branches && check(2, &bytes, &sheet) == Ok(Verdict::Yes));
 }

@@ -8,10 +8,7 @@ use std::time::{Duration, Instant};
 const MOST_NODES: u64 = 20_000;
 
 fn main() -> ExitCode {
-    let numbers: Option<Vec<u64>> = std::env::args()
-        .skip(1)
-        .map(|word| word.parse().ok())
-        .collect();
+    let numbers: Option<Vec<u64>> = std::env::args().skip(1).map(|word| word.parse().ok()).collect();
     let (seconds, seed) = match numbers.as_deref() {
         Some([seconds]) => (*seconds, 1),
         Some([seconds, seed]) => (*seconds, *seed),
@@ -25,10 +22,7 @@ fn main() -> ExitCode {
         println!("seed {seed}, {difference}");
         return ExitCode::FAILURE;
     }
-    println!(
-        "seed {seed}, {seconds} s, no difference: {}",
-        figures(&tally)
-    );
+    println!("seed {seed}, {seconds} s, no difference: {}", figures(&tally));
     for (number, count) in &tally.answers {
         match number {
             0 => println!("  verdict      {count}"),
@@ -63,13 +57,6 @@ fn run(time: Duration, seed: u64, tally: &mut Tally) -> Result<(), Difference> {
 }
 
 fn figures(tally: &Tally) -> String {
-    let Tally {
-        questions,
-        too_long,
-        nodes,
-        rooms,
-        sheets,
-        ..
-    } = tally;
+    let Tally { questions, too_long, nodes, rooms, sheets, .. } = tally;
     format!("{questions} questions ({too_long} too long), {rooms} rooms, {sheets} sheets, {nodes} nodes")
 }

@@ -36,10 +36,7 @@ fn avlb(from: i32) -> Sketch {
     let to = from + 10;
     let tables = format!("{ITEM_SHORT}; {AVAILABLE}; {DISTRIBUTOR}");
     let joined = "itemNumb=avlbItem avlbDist=distNumb and";
-    Sketch::new(
-        &tables,
-        &format!("{joined} distRegn>={from} and distRegn<{to} and"),
-    )
+    Sketch::new(&tables, &format!("{joined} distRegn>={from} and distRegn<{to} and"))
 }
 
 /// The changed table whole, and of the others the columns that the condition names.
@@ -64,10 +61,8 @@ pub fn xyz() -> Vec<Example> {
         let west = region == "West";
         let said = if west { "no/-" } else { "yes/-" };
         let verdicts = |relevant| if west { relevant } else { "yes/yes" };
-        let views = [
-            ("Cust", cust(from).insert(0, row), "no/yes"),
-            ("Ordr", ordr(from).insert(1, row), "no/no"),
-        ];
+        let views =
+            [("Cust", cust(from).insert(0, row), "no/yes"), ("Ordr", ordr(from).insert(1, row), "no/no")];
         for (view, question, relevant) in views {
             let name = format!("7-XYZ {view}{region}");
             all.push(Example::new(name, question, said, verdicts(relevant)));
@@ -86,18 +81,13 @@ pub fn load() -> Vec<Example> {
     distributors(&mut all);
     available(&mut all);
     items(&mut all);
-    let mut part =
-        |name: &str, question, class| all.push(pair(name, "PartOrder*", question, class));
+    let mut part = |name: &str, question, class| all.push(pair(name, "PartOrder*", question, class));
     let orders = part_order(2);
     part("U10", orders.delete(2, "ordrDate<860901"), COMPUTABLE);
     let lines = part_order(1);
     let rows: &[&[i32]] = &[&[101, 42, 3], &[102, 71, 80], &[103, 27, 250]];
     part("U13", lines.insert(1, rows), NEITHER);
-    part(
-        "U14",
-        lines.modify(1, "lineItem=47", "lineQnty:=lineQnty+250"),
-        COMPUTABLE,
-    );
+    part("U14", lines.modify(1, "lineItem=47", "lineQnty:=lineQnty+250"), COMPUTABLE);
     all
 }
 
@@ -117,10 +107,7 @@ fn customers(all: &mut Vec<Example>) {
     let updates = [
         ("U3", "custNumb=123"),
         ("U4", "custNumb>123 custNumb<130 and"),
-        (
-            "U5",
-            "custNumb=123 custNumb=125 or custNumb=127 or custNumb=129 or",
-        ),
+        ("U5", "custNumb=123 custNumb=125 or custNumb=127 or custNumb=129 or"),
     ];
     for (update, rows) in updates {
         for (region, from) in REGIONS {
@@ -129,12 +116,7 @@ fn customers(all: &mut Vec<Example>) {
             let view = format!("Ordr{region}");
             all.push(pair(update, &view, ordr(from).delete(1, rows), COMPUTABLE));
         }
-        all.push(pair(
-            update,
-            "PartOrder*",
-            part_order(3).delete(3, rows),
-            COMPUTABLE,
-        ));
+        all.push(pair(update, "PartOrder*", part_order(3).delete(3, rows), COMPUTABLE));
     }
     for (region, from) in REGIONS {
         let question = ordr(from).delete(0, "ordrDate<860901");
@@ -181,22 +163,12 @@ fn items(all: &mut Vec<Example>) {
     let rows = "itemNumb=45 itemNumb=113 or itemNumb=297 or";
     for (update, setting) in [("U11", "itemPrix:=itemPrix+125"), ("U12", "itemPrix:=995")] {
         let part = Sketch::new(ITEM, "");
-        all.push(pair(
-            update,
-            "Part",
-            part.modify(0, rows, setting),
-            COMPUTABLE,
-        ));
+        all.push(pair(update, "Part", part.modify(0, rows, setting), COMPUTABLE));
         let question = part_order(0).modify(0, rows, setting);
         all.push(pair(update, "PartOrder*", question, COMPUTABLE));
         for (region, from) in REGIONS {
             let question = avlb(from).modify(0, rows, setting);
-            all.push(pair(
-                update,
-                &format!("Avlb{region}*"),
-                question,
-                COMPUTABLE,
-            ));
+            all.push(pair(update, &format!("Avlb{region}*"), question, COMPUTABLE));
         }
     }
 }

@@ -32,20 +32,8 @@ pub struct Example {
 }
 
 impl Example {
-    fn new(
-        name: impl Into<String>,
-        question: Question,
-        report: &'static str,
-        right: &'static str,
-    ) -> Self {
-        Example {
-            name: name.into(),
-            question,
-            report,
-            words: "",
-            right,
-            why: "",
-        }
+    fn new(name: impl Into<String>, question: Question, report: &'static str, right: &'static str) -> Self {
+        Example { name: name.into(), question, report, words: "", right, why: "" }
     }
 
     fn words(self, words: &'static str) -> Self {
@@ -56,29 +44,19 @@ impl Example {
         Example { why, ..self }
     }
 
-    /// The example as a line: name, question, report, ours, with tabs between.
-    pub fn line(&self) -> String {
-        let question = hex(&encode(&self.question));
-        [&self.name, &question, self.report, self.right].join("\t")
-    }
-
     /// The example as a row of a Markdown table: name, question, report, ours, why.
     pub fn row(&self) -> String {
         let question = hex(&encode(&self.question));
         let colon = if self.words.is_empty() { "" } else { ": " };
         let report = [self.words, colon, self.report].concat();
-        let Example {
-            name, right, why, ..
-        } = self;
+        let Example { name, right, why, .. } = self;
         format!("| {name} | `{question}` | {report} | {right} | {why} |")
     }
 
     /// Whether the report contradicts the right verdicts.
     pub fn differs(&self) -> bool {
         let pairs = self.report.split('/').zip(self.right.split('/'));
-        pairs
-            .into_iter()
-            .any(|(said, right)| said != "-" && said != right)
+        pairs.into_iter().any(|(said, right)| said != "-" && said != right)
     }
 }
 

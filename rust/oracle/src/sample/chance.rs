@@ -11,9 +11,7 @@ impl Chance {
     pub fn new(seed: u64) -> Self {
         // xorshift stays at 0 for ever: spread the seed and keep away from it
         let state = seed.wrapping_mul(0x9e37_79b9_7f4a_7c15) ^ 0xd1b5_4a32_d192_ed03;
-        let mut chance = Chance {
-            state: state.max(1),
-        };
+        let mut chance = Chance { state: state.max(1) };
         (0..8).for_each(|_| _ = chance.bits());
         chance
     }

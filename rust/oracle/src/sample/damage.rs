@@ -37,11 +37,7 @@ fn fault(chance: &mut Chance, bytes: &mut Vec<u8>) {
         3 => _ = bytes.remove(at),
         4 => {
             let edge = chance.among(&EDGES).to_le_bytes();
-            bytes
-                .iter_mut()
-                .skip(at)
-                .zip(edge)
-                .for_each(|(byte, new)| *byte = new);
+            bytes.iter_mut().skip(at).zip(edge).for_each(|(byte, new)| *byte = new);
         }
         5 => bytes[at] ^= 1 << chance.below(8),
         6 => bytes[at] = chance.among(&[0, 1, 2, 3, 4, 5, 6, 7, 8, 9, 17, 18, 254, 255]),
@@ -57,10 +53,7 @@ pub fn misfit(chance: &mut Chance, question: &Question) -> Vec<u8> {
     match chance.below(9) {
         0 => question.columns[column].lo = edge,
         1 => question.columns[column].hi = edge,
-        2 => question
-            .columns
-            .iter_mut()
-            .for_each(|column| column.visible = false),
+        2 => question.columns.iter_mut().for_each(|column| column.visible = false),
         3 => question.changed = chance.below(6),
         4 => question.widths.push(chance.below(4)),
         5 => spoil(chance, &mut question.condition, edge),

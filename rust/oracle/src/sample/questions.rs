@@ -25,9 +25,7 @@ pub fn sized(chance: &mut Chance, count: usize, comparisons: usize) -> Question 
 /// A question over one or two tables, two or three columns and a few values, for which all contents
 /// can be tried.
 pub fn tiny(chance: &mut Chance) -> Question {
-    let widths = chance
-        .among(&[&[1][..], &[2], &[2], &[3], &[1, 1], &[1, 2], &[2, 1]])
-        .to_vec();
+    let widths = chance.among(&[&[1][..], &[2], &[2], &[3], &[1, 1], &[1, 2], &[2, 1]]).to_vec();
     let mut columns = Vec::new();
     for _ in 0..widths.iter().sum() {
         let lo = chance.between(-1, 1);
@@ -44,11 +42,7 @@ pub fn tiny(chance: &mut Chance) -> Question {
 /// A question with a formula of 120 places, the most there can be, and a path through all of them:
 /// every comparison sets a column against itself.
 pub fn deepest() -> Question {
-    let column = Column {
-        lo: 0,
-        hi: 1,
-        visible: true,
-    };
+    let column = Column { lo: 0, hi: 1, visible: true };
     let mut all = vec![Token::Compare(Op::Equal, 0, Side::Column(0, 0)); MOST_COMPARISONS];
     all.extend([Token::And; MOST_COMPARISONS - 1]);
     let modes = (0..MOST_COLUMNS).map(|column| Mode::Become(Side::Column(column, 0)));
@@ -68,19 +62,9 @@ fn finish(
     comparisons: [usize; 2],
 ) -> Question {
     let changed = chance.below(widths.len());
-    let mut question = Question {
-        widths,
-        changed,
-        columns,
-        condition: Vec::new(),
-        change: Change::Insert(Vec::new()),
-    };
-    question.condition = condition(
-        chance,
-        &question.columns,
-        0..question.columns.len(),
-        comparisons[0],
-    );
+    let mut question =
+        Question { widths, changed, columns, condition: Vec::new(), change: Change::Insert(Vec::new()) };
+    question.condition = condition(chance, &question.columns, 0..question.columns.len(), comparisons[0]);
     question.change = change(chance, &question, comparisons[1]);
     question
 }
@@ -98,11 +82,7 @@ fn columns(chance: &mut Chance, count: usize) -> Vec<Column> {
     let wide = chance.once_in(4);
     let mut columns = Vec::new();
     for _ in 0..count {
-        let (lo, hi) = if wide {
-            wide_range(chance)
-        } else {
-            small_range(chance)
-        };
+        let (lo, hi) = if wide { wide_range(chance) } else { small_range(chance) };
         let visible = chance.once_in(2);
         columns.push(Column { lo, hi, visible });
     }
@@ -130,12 +110,7 @@ fn wide_range(chance: &mut Chance) -> (i32, i32) {
 fn constant(chance: &mut Chance, column: Column) -> i32 {
     let near = chance.between(-2, 2);
     match chance.below(16) {
-        0 => chance.among(&[
-            -MOST_CONSTANT,
-            1 - MOST_CONSTANT,
-            MOST_CONSTANT - 1,
-            MOST_CONSTANT,
-        ]),
+        0 => chance.among(&[-MOST_CONSTANT, 1 - MOST_CONSTANT, MOST_CONSTANT - 1, MOST_CONSTANT]),
         1..=3 => column.lo + near,
         4..=6 => column.hi + near,
         _ => chance.between(column.lo, column.hi),
@@ -153,12 +128,7 @@ fn addition(chance: &mut Chance, from: Column, to: Column) -> i32 {
     }
 }
 
-fn condition(
-    chance: &mut Chance,
-    columns: &[Column],
-    own: Range<usize>,
-    count: usize,
-) -> Condition {
+fn condition(chance: &mut Chance, columns: &[Column], own: Range<usize>, count: usize) -> Condition {
     let mut tokens = Vec::new();
     let mut values = 0;
     let mut left = count;
@@ -199,12 +169,7 @@ fn change(chance: &mut Chance, question: &Question, comparisons: usize) -> Chang
     match chance.below(3) {
         0 => {
             let count = chance.below(MOST_ROWS + 1);
-            let mut row = || {
-                columns[own.clone()]
-                    .iter()
-                    .map(|c| chance.between(c.lo, c.hi))
-                    .collect()
-            };
+            let mut row = || columns[own.clone()].iter().map(|c| chance.between(c.lo, c.hi)).collect();
             Change::Insert((0..count).map(|_| row()).collect())
         }
         1 => Change::Delete(condition(chance, columns, own, comparisons)),

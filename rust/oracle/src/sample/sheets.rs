@@ -8,12 +8,7 @@ use crate::sheet::{Verdict, Worked};
 use crate::trouble::trouble;
 
 /// A sheet with the same verdict as the writer's: other leaves and branches, or other rows.
-pub fn other_sheet(
-    chance: &mut Chance,
-    question: &Question,
-    asked: u8,
-    worked: &Worked,
-) -> Vec<u8> {
+pub fn other_sheet(chance: &mut Chance, question: &Question, asked: u8, worked: &Worked) -> Vec<u8> {
     let formulas = trouble(question, asked);
     if worked.verdict == Verdict::No {
         let formula = &formulas[usize::from(worked.bytes[7])];
@@ -28,29 +23,19 @@ pub fn other_sheet(
 }
 
 /// Lowers values one by one as long as the formula is met.
-fn other_rows(
-    chance: &mut Chance,
-    question: &Question,
-    formula: &Formula,
-    sheet: &[u8],
-) -> Vec<u8> {
+fn other_rows(chance: &mut Chance, question: &Question, formula: &Formula, sheet: &[u8]) -> Vec<u8> {
     let count = question.columns.len();
     let number = |four: &[u8]| i32::from_le_bytes(four.try_into().expect("four bytes"));
     let mut values: Vec<i32> = sheet[8..].chunks(4).map(number).collect();
     for _ in 0..4 * values.len() {
         let at = chance.below(values.len());
         let column = question.columns[at % count];
-        let inserted =
-            formula.inserted.is_some() && question.changed_columns().contains(&(at % count));
+        let inserted = formula.inserted.is_some() && question.changed_columns().contains(&(at % count));
         if inserted || values[at] == column.lo {
             continue;
         }
         let old = values.clone();
-        let lower = if chance.once_in(2) {
-            values[at] - 1
-        } else {
-            chance.between(column.lo, column.hi)
-        };
+        let lower = if chance.once_in(2) { values[at] - 1 } else { chance.between(column.lo, column.hi) };
         values[at] = lower;
         if column.visible && formula.two {
             values[(at + count) % (2 * count)] = lower;
