@@ -5,7 +5,6 @@ use mathlib.Core.Path.{_≡_, refl, sym, ap, _∙_, subst}
 use mathlib.Core.Logic.{_↔_}
 use mathlib.Core.Bool.{Bool, true, false}
 use mathlib.Core.List.{List, [], _∷_, append-nil}
-use native.Mathlib.Omega.{arith}
 use lib.Dec.{T}
 use Rattle.meaning.specs.Condition.{Row}
 use Rattle.meaning.specs.Contents.{Question, columns, look, fits, part}
