@@ -272,7 +272,7 @@ fn trace(g: [[i64; 17]; 17], ways: [[i64; 17]; 17], n: usize, start: usize, coun
 pub fn search(g: [[i64; 17]; 17], n: usize) -> Cycle
     requires { ⌜ (0 < n) × (n ≤ mostVertices) ⌝ }
     requires { ⌜ AllWithin farN n g ⌝ }
-    ensures { λ r. ⌜ cycleOf r ≡ search (weight g) (n - 1) ⌝ }
+    ensures { λ r. ⌜ (cycleOf r ≡ search (weight g) (n - 1)) × (r .count ≤ n) ⌝ }
 {
     let opening = shortest(g, n);
     let count = opening.count;

@@ -27,3 +27,5 @@ pub mod Twelves
 pub mod Positions
 pub mod Columns
 pub mod Demands
+pub mod Growths
+pub mod Halves

@@ -10,3 +10,4 @@ pub mod Room
 pub mod Demands
 pub mod Checking
 pub mod Twelve
+pub mod Growing

@@ -7,22 +7,15 @@ use Rattle.grid.proofs.Answers.{Closes, none-found, one-found, cycle-so
 use borrow.Author.Needs.{needs}
 use Rattle.grid.proofs.search.Statement.{statement}
 use Rattle.grid.proofs.search.Tie as tie
-use Rattle.grid.proofs.search.Reads as reads
-use Rattle.grid.proofs.search.Lts as lts
-use Rattle.grid.proofs.shortest.Reads as shortest-reads
-use Rattle.grid.proofs.trace.Reads as trace-reads
-use Rattle.grid.proofs.ways.Reads as ways-reads
 
--- src/lib.rt:277:9
 shortest-requires : tie.Need-shortest-requires
 shortest-requires c κs = search needs
 
--- src/lib.rt:281:9
 returns : tie.Need-returns
 unfolding cycleOf
 returns c =
     let z = c .before .before in
-    sym (none-found (weight (z .args .g)) (z .args .n - 1) _ _ (c .before .shortest .ensures) (c .if1 .taken))
+    (sym (none-found (weight (z .args .g)) (z .args .n - 1) _ _ (c .before .shortest .ensures) (c .if1 .taken)), omega arith)
 
 -- a walk was found
 more : (c : tie.Else1) → 0 < c .before .shortest .result .count
@@ -31,7 +24,6 @@ more c = let h = c .if1 .left in omega arith
 closes : (c : tie.Else1) → let a = c .before .before .args in let o = c .before .shortest .result in Closes (weight (a .g)) (a .n - 1) (o .count) (o .start)
 closes c = let a = c .before .before .args in one-found (weight (a .g)) (a .n - 1) _ _ (c .before .shortest .ensures) (more c)
 
--- src/lib.rt:286:9
 ways-requires : tie.Need-ways-requires
 ways-requires c κs =
     let z = c .before .before in
@@ -39,7 +31,6 @@ ways-requires c κs =
     let m : suc (z .args .n - 1) ≡ z .args .n = omega (arith, z .pre .0) in
     ((z .pre .0 .0, z .pre .0 .1, omega (arith, f .here), more c, omega (arith, f .few)), z .pre .1)
 
--- src/lib.rt:287:5
 trace-requires : tie.Need-trace-requires
 trace-requires c κs =
     let z = c .before .before .before in
@@ -47,9 +38,12 @@ trace-requires c κs =
     let m : suc (z .args .n - 1) ≡ z .args .n = omega (arith, z .pre .0) in
     ((z .pre .0 .0, z .pre .0 .1, omega (arith, f .here), more (c .before), omega (arith, f .few)), (z .pre .1, (c .ways .ensures, f .negative)))
 
--- src/lib.rt:272:1
 returns-2 : tie.Need-returns-2
-returns-2 c = cycle-some (c .trace .result) _ _ (more (c .before .before)) (c .trace .ensures .0) (c .trace .ensures .1) ∙ sym (closes (c .before .before) .answer)
+returns-2 c =
+    let f = closes (c .before .before) in (
+      cycle-some (c .trace .result) _ _ (more (c .before .before)) (c .trace .ensures .0) (c .trace .ensures .1) ∙ sym (f .answer),
+      omega (arith, f .few, c .trace .ensures .0, c .before .before .before .before .pre .0),
+    )
 
 pub search-spec : {M : Type 1} → statement M
 search-spec = tie.close (tie.spec shortest-requires returns ways-requires trace-requires returns-2)

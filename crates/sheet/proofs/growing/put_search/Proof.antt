@@ -1,0 +1,39 @@
+use mathlib.Core.Path.{_≡_}
+use denote.Ref.{now}
+use Rattle.grid.specs.Grid.{weight}
+use Rattle.grid.specs.Search as S
+use Rattle.sheet.specs.Room.{filling, puts}
+use Rattle.sheet.specs.Tree.{bytesOf, cycle}
+use native.Mathlib.Omega.{arith}
+use mathlib.Core.Path.{ap, _∙_}
+use Prim.Native.Nat.{_+_, _-_}
+use Rattle.sheet.proofs.Growths.{kept-within, found-list}
+use borrow.Author.Needs.{needs}
+use Rattle.sheet.proofs.growing.put_search.Statement.{statement}
+use Rattle.sheet.proofs.growing.put_search.Tie as tie
+
+add-search : tie.Need-add-search
+add-search c = search needs
+
+search-requires : tie.Need-search-requires
+search-requires c κs =
+    let s = c .before in
+    ((omega arith, omega (arith, s .pre .0)), kept-within (s .args .g) (s .pre .1) (s .args .last + 1))
+
+put-cycle-requires : tie.Need-put-cycle-requires
+put-cycle-requires c κs = search needs
+
+same-length : tie.Need-same-length
+same-length c = search needs
+
+returns : tie.Need-returns
+returns c =
+    let s = c .before .before .before .before .before .before .before in
+    let found = c .before .before .before .before .before .search in
+    let last : s .args .last + 1 - 1 ≡ s .args .last = omega arith in
+    c .before .before .put-cycle .ensures
+    ∙ ap (λ l. puts (filling (now (s .args .room)) (s .args .spot)) (bytesOf (cycle l))) (found-list (found .result) (S.search (weight (s .args .g)) (s .args .last)) (found .ensures .0 ∙ ap (S.search (weight (s .args .g))) last))
+
+pub put-search-spec : {M : Type 1} → statement M
+put-search-spec =
+    tie.close (tie.spec add-search search-requires put-cycle-requires same-length returns)

@@ -1,0 +1,79 @@
+-- What the writer's code holds at a node, and what it leaves there.
+use Prim.Native.Nat.{ℕ, suc, _≤_, _<_}
+use mathlib.Core.Path.{_≡_}
+use mathlib.Core.Bool.{Bool, true, false}
+use mathlib.Core.List.{List, [], map}
+use lib.ListN.{length, getD, take, drop}
+use lib.IntN.{ℤ, pos}
+use lib.Signed.{_≤ℤ_}
+use Rattle.ints.proofs.Bridge.{up, dn}
+use Rattle.grid.specs.Grid.{Grid, weight, tighten, far, least-weight}
+use Rattle.grid.specs.Near.{Closure}
+use Rattle.formula.specs.Program.{Program, Place, kindsOf, places}
+use Rattle.formula.specs.Cells.{bit}
+use Rattle.formula.specs.Formulas.{Formula}
+use Rattle.sheet.specs.Facts.{taken}
+use Rattle.sheet.specs.Fast.{after, half, fast}
+use Rattle.sheet.specs.Tree.{bytesOf}
+use Rattle.sheet.specs.Grow.{Growth, shut, openAt}
+use Rattle.sheet.specs.Room.{filling, puts}
+use Rattle.sheet.specs.declared.room.Spot.{Spot}
+use Rattle.sheet.specs.declared.growing.Grown.{Grown}
+
+-- the decisions made so far, from their bytes
+abbrev pub decisions : List ℕ → ℕ → List Bool
+decisions truths decided = map bit (take decided truths)
+
+-- place i, from the three lists that the code keeps
+abbrev pub placeAt : List ℕ → List ℕ → List ℤ → ℕ → Place
+placeAt left right most i = record { left = getD left i 0; right = getD right i 0; most = getD most i (pos 0) }
+
+-- the lists are those of a program
+pub record Lent (p : Program) (kinds left right : List ℕ) (most : List ℤ) : Type 0 where
+  pub kinds-are : kinds ≡ kindsOf p
+  pub places-are : length most ≡ length (places p)
+  pub place-is : (i : ℕ) → i < length most → getD (places p) i (placeAt left right most i) ≡ placeAt left right most i
+
+-- what a growth leaves in the room and in the answer: the tree's bytes; or the values at the vertices up to the last
+abbrev pub Grows : ℕ → List ℕ → Spot → Growth → List ℕ → Grown → Type 0
+Grows last old s (shut t) new r = (r .open ≡ false) × (filling new (r .spot) ≡ puts (filling old s) (bytesOf t))
+Grows last old s (openAt x) new r = (r .open ≡ true) × (length new ≡ length old) × ((v : ℕ) → v < suc last → getD (r .values) v (pos 0) ≡ x v)
+
+-- the bytes of a node that is shut
+abbrev pub cutBytes : Growth → List ℕ
+cutBytes (shut t) = bytesOf t
+cutBytes (openAt x) = []
+
+-- the rest of a formula's rule from a node on, where so many of its places are decided and no cycle is negative
+abbrev pub fastAt : ℕ → Formula → ℕ → List ℕ → Grid → Grid → Growth
+fastAt last F decided truths g near = fast last F (drop decided (places (F .program))) (decisions truths decided) g (weight near)
+
+-- half of a branch, from its fact: an edge of weight k
+abbrev pub sideBy : ℕ → Formula → ℕ → List ℕ → Grid → Grid → ℕ → ℕ → ℤ → Growth
+sideBy last F decided truths g near from to k =
+    let q : Place = record { left = to; right = from; most = k } in
+    let facts = tighten g from to k in
+    let ds = decisions truths decided in
+    half last F (weight near) q ds facts (fast last F (drop decided (places (F .program))) ds facts (after (weight near) q))
+
+-- ---- what the code must be given
+
+-- a fact between vertices up to the last, with a small weight
+pub record Fact (last from to : ℕ) (k : ℤ) : Type 0 where
+  pub from-is : from < suc last
+  pub to-is : to < suc last
+  pub high : up k ≤ least-weight
+  pub low : dn k ≤ least-weight
+
+-- no weight is above a missing edge's, none below the least
+pub record Kept (g : Grid) : Type 0 where
+  pub ceiling : (u v : ℕ) → weight g u v ≤ℤ far
+  pub floor : (u v : ℕ) → dn (weight g u v) ≤ least-weight
+
+-- places between vertices up to the last, with small constants; a grid of such facts and its closure
+pub record Ready (last : ℕ) (left right : List ℕ) (most : List ℤ) (g near : Grid) : Type 0 where
+  pub few : last < 17
+  pub as-long : (length left ≡ length most) × (length right ≡ length most) × (length most ≤ 120)
+  pub facts : (i : ℕ) → i < length most → (d : Bool) → Fact last (taken (placeAt left right most i) d .right) (taken (placeAt left right most i) d .left) (taken (placeAt left right most i) d .most)
+  pub closed : Closure (suc last) (weight g) (weight near)
+  pub kept : Kept g

@@ -1,0 +1,226 @@
+// The writer's rule at a node and below it. The closure of the facts goes down beside the grid, so that one sum tells whether a
+// fact closes a negative cycle; the search is made only where there is one.
+use crate::room::Spot;
+use crate::room::put;
+use crate::room::put_all;
+use formula::knowing::Truth;
+use formula::knowing::known;
+use grid::edge;
+use grid::relax;
+use grid::search;
+use grid::tighten;
+use ints::weights::negation;
+ghost use Prim.Native.Nat.{_-_, _≤_, _<_};
+ghost use mathlib.Core.Path.{_≡_};
+ghost use mathlib.Core.Bool.{true, false};
+ghost use lib.ListN.{length, set, take};
+ghost use Rattle.formula.specs.Formulas.{Formula};
+ghost use Rattle.formula.specs.Known.{knownKinds};
+ghost use Rattle.formula.specs.Cells.{threeOf};
+ghost use Rattle.sheet.specs.Tree.{bytesOf, cycle};
+ghost use Rattle.grid.specs.Grid.{weight, row};
+ghost use Rattle.grid.specs.Search.{search};
+ghost use Rattle.sheet.specs.Fast.{strainedNode, cycleOf};
+ghost use Rattle.sheet.specs.Room.{filling, puts};
+ghost use Rattle.sheet.specs.Growing.{Grows, decisions, Lent, Fact, Kept, Ready, cutBytes, fastAt, sideBy};
+
+// A formula's tree was written up to a spot; or it is open, with the values at its vertices.
+pub struct Grown {
+    pub open: bool,
+    pub spot: Spot,
+    pub values: [i64; 17],
+}
+
+// A node that needs nothing more.
+fn shut(spot: Spot) -> Grown
+    ensures { λ r. ⌜ (r .open ≡ false) × (r .spot ≡ spot) ⌝ }
+{
+    Grown {
+        open: false,
+        spot: spot,
+        values: [0; 17],
+    }
+}
+
+// Node 2: the first so many vertices.
+fn put_cycle(room: &mut [u8], spot: Spot, vertices: [u8; 17], count: usize) -> Spot
+    requires { ⌜ count ≤ 17 ⌝ }
+    ensures { λ r. ⌜ filling (now (room .exit)) r ≡ puts (filling (now (room .entry)) spot) (bytesOf (cycle (take count vertices))) ⌝ }
+{
+    let one = put(room, spot, 2);
+    let two = put(room, one, count as u8);
+    put_all(room, two, &vertices[..count])
+}
+
+// What is known under the first of the truths.
+fn known_so_far(kinds: &[u8], truths: [u8; 120], decided: usize) -> Truth
+    requires { ⌜ (length (now kinds) ≤ 320) × (decided ≤ 120) ⌝ }
+    ensures { λ r. ⌜ threeOf r ≡ knownKinds (now (kinds .entry)) (decisions truths decided) ⌝ }
+{
+    known(kinds, &truths[..decided])
+}
+
+// Node 2, by the search.
+fn put_search(room: &mut [u8], spot: Spot, g: [[i64; 17]; 17], last: usize) -> Spot
+    requires { ⌜ (last < 17) × Kept g ⌝ }
+    ensures { λ r. ⌜ filling (now (room .exit)) r ≡ puts (filling (now (room .entry)) spot) (bytesOf (cycle (cycleOf (search (weight g) last)))) ⌝ }
+{
+    let c = search(g, last + 1);
+    let vertices = c.vertices;
+    put_cycle(room, spot, vertices, c.count)
+}
+
+// A node whose facts close a negative cycle.
+fn cut(
+    room: &mut [u8],
+    spot: Spot,
+    kinds: &[u8],
+    truths: [u8; 120],
+    decided: usize,
+    g: [[i64; 17]; 17],
+    last: usize,
+) -> Spot
+    requires { ⌜ (length (now kinds) ≤ 320) × (decided ≤ 120) × (last < 17) × Kept g ⌝ }
+    ensures { λ r. ⌜ filling (now (room .exit)) r ≡ puts (filling (now (room .entry)) spot) (cutBytes (strainedNode (knownKinds (now (kinds .entry)) (decisions truths decided)) (search (weight g) last))) ⌝ }
+{
+    let k = known_so_far(kinds, truths, decided);
+    match k {
+        Truth::Fails => put(room, spot, 1),
+        Truth::Passes => put_search(room, spot, g, last),
+        Truth::Open => put_search(room, spot, g, last),
+    }
+}
+
+// The truths with one more.
+fn with_truth(truths: [u8; 120], at: usize, d: u8) -> [u8; 120]
+    requires { ⌜ at < 120 ⌝ }
+    ensures { λ r. ⌜ r ≡ set truths at d ⌝ }
+{
+    let mut more = truths;
+    more[at] = d;
+    more
+}
+
+// The formula is open: the closure's first row is the greatest solution.
+fn open(spot: Spot, near: [[i64; 17]; 17]) -> Grown
+    ensures { λ r. ⌜ (r .open ≡ true) × (r .values ≡ row near 0) ⌝ }
+{
+    Grown {
+        open: true,
+        spot: spot,
+        values: near[0],
+    }
+}
+
+// Half of a branch: what one more fact comes to, an edge of weight k.
+fn side(
+    room: &mut [u8],
+    spot: Spot,
+    kinds: &[u8],
+    left: &[u8],
+    right: &[u8],
+    most: &[i64],
+    last: usize,
+    undecided: usize,
+    truths: [u8; 120],
+    g: [[i64; 17]; 17],
+    near: [[i64; 17]; 17],
+    from: usize,
+    to: usize,
+    k: i64,
+) -> Grown
+    requires { ⌜ (length (now kinds) ≤ 320) × (undecided ≤ length (now most)) × Fact last from to k × Ready last (now left) (now right) (now most) g near ⌝ }
+    ensures { λ r. ⌜ ((F : Formula) → Lent (F .program) (now (kinds .entry)) (now (left .entry)) (now (right .entry)) (now (most .entry)) → Grows last (now (room .entry)) spot (sideBy last F (length (now (most .entry)) - undecided) truths g near from to k) (now (room .exit)) r) ⌝ }
+{
+    let facts = tighten(g, from, to, k);
+    let round = edge(near, to, from);
+    if round + k < 0 {
+        let decided = most.len() - undecided;
+        return shut(cut(room, spot, kinds, truths, decided, facts, last));
+    }
+    let closer = relax(near, last + 1, from, to, k);
+    grow(
+        room,
+        spot,
+        kinds,
+        left,
+        right,
+        most,
+        last,
+        undecided,
+        truths,
+        facts,
+        closer,
+    )
+}
+
+// A node where no cycle is negative, and all below it.
+pub fn grow(
+    room: &mut [u8],
+    spot: Spot,
+    kinds: &[u8],
+    left: &[u8],
+    right: &[u8],
+    most: &[i64],
+    last: usize,
+    undecided: usize,
+    truths: [u8; 120],
+    g: [[i64; 17]; 17],
+    near: [[i64; 17]; 17],
+) -> Grown
+    requires { ⌜ (length (now kinds) ≤ 320) × (undecided ≤ length (now most)) × Ready last (now left) (now right) (now most) g near ⌝ }
+    ensures { λ r. ⌜ ((F : Formula) → Lent (F .program) (now (kinds .entry)) (now (left .entry)) (now (right .entry)) (now (most .entry)) → Grows last (now (room .entry)) spot (fastAt last F (length (now (most .entry)) - undecided) truths g near) (now (room .exit)) r) ⌝ }
+{
+    let decided = most.len() - undecided;
+    let k = known_so_far(kinds, truths, decided);
+    match k {
+        Truth::Fails => shut(put(room, spot, 1)),
+        Truth::Passes => open(spot, near),
+        Truth::Open => {
+            if undecided == 0 {
+                return open(spot, near);
+            }
+            let a = left[decided] as usize;
+            let b = right[decided] as usize;
+            let w = most[decided];
+            let start = put(room, spot, 3);
+            let yes = side(
+                room,
+                start,
+                kinds,
+                left,
+                right,
+                most,
+                last,
+                undecided - 1,
+                with_truth(truths, decided, 1),
+                g,
+                near,
+                b,
+                a,
+                w,
+            );
+            let o = yes.open;
+            if o {
+                return yes;
+            }
+            let next = yes.spot;
+            side(
+                room,
+                next,
+                kinds,
+                left,
+                right,
+                most,
+                last,
+                undecided - 1,
+                with_truth(truths, decided, 0),
+                g,
+                near,
+                a,
+                b,
+                negation(w),
+            )
+        }
+    }
+}
