@@ -21,7 +21,7 @@ fn row(load: &Load, figures: &Figures) -> String {
     let rate = |seconds: f64| questions as f64 / seconds;
     let nodes: u64 = load.questions.iter().map(|asked| asked.nodes).sum();
     let (z3, ratio) = match figures.z3 {
-        Some(seconds) => (format!("{:.0}", rate(seconds)), format!("{:.0}", seconds / figures.library)),
+        Some(seconds) => (format!("{:.0}", rate(seconds)), format!("{:.1}", seconds / figures.library)),
         None => ("-".to_string(), "-".to_string()),
     };
     format!(
