@@ -15,3 +15,5 @@ pub mod PieceJudges
 pub mod QuestionJudges
 pub mod Refusals
 pub mod Uniques
+pub mod Totals
+pub mod Visible

@@ -1,0 +1,74 @@
+-- Sums of widths, and the loop that reads them.
+use mathlib.Core.Path.{_≡_, refl, sym, ap, _∙_}
+use mathlib.Core.List.{List, [], _∷_, _++_, map, map-id}
+use mathlib.Core.Logic.{_⊎_, inl, inr, ⊎-elim}
+use Prim.Native.Nat.{ℕ, zero, suc, _+_, _-_, _≤_, _<_}
+use native.Mathlib.Omega.{arith}
+use native.Mathlib.Numerals.{add-one}
+use lib.ListN.{length, take, getD, set, length-set}
+use lib.Seq.{take-suc, take-suc-set, take-take, getD-take, getD-set-same, getD-set-other}
+use borrow.Author.Count.{below-more}
+use Rattle.question.specs.Layout.{total}
+use Rattle.question.specs.Reader.{Outcome, bad, At, found, many, byte, widthAt}
+use Rattle.question.specs.Shapes.{Counted}
+use Rattle.question.proofs.Loops.{Going, going-on, going-end}
+use Rattle.question.proofs.FieldLaws.{is-within}
+
+pub total-snoc : (ws : List ℕ) (w : ℕ) → total (ws ++ (w ∷ [])) ≡ total ws + w
+unfolding total
+total-snoc [] w = omega arith
+total-snoc (v ∷ ws) w = omega (arith, total-snoc ws w)
+
+pub total-more : (ws : List ℕ) (i : ℕ) → i < length ws → total (take (i + 1) ws) ≡ total (take i ws) + getD ws i 0
+total-more ws i h = rw (add-one, take-suc ws i 0 h) (total-snoc (take i ws) (getD ws i 0))
+
+pub total-set : (ws : List ℕ) (i w : ℕ) → i < length ws → total (take (i + 1) (set ws i w)) ≡ total (take i ws) + w
+total-set ws i w h = rw (add-one, take-suc-set ws i w h) (total-snoc (take i ws) w)
+
+-- fewer tables have no more columns
+pub total-le : (ws : List ℕ) (i n : ℕ) → i ≤ n → total (take i ws) ≤ total (take n ws)
+unfolding total
+total-le [] zero n h = omega arith
+total-le [] (suc i) zero h = omega arith
+total-le [] (suc i) (suc n) h = omega arith
+total-le (w ∷ ws) zero n h = omega arith
+total-le (w ∷ ws) (suc i) zero h = absurd (omega arith)
+total-le (w ∷ ws) (suc i) (suc n) h = omega (arith, total-le ws i n (omega arith))
+
+-- i widths were read, of n
+pub record WidthRun (s : List ℕ) (n p : ℕ) (widths : List ℕ) (sum next i : ℕ) : Type 0 where
+  pub going : Going (widthAt s) (λ (w : ℕ). w) 4 n (many (widthAt s) n [] p) widths i next
+  pub sums : sum ≡ total (take i widths)
+  pub small : sum ≤ 8
+  pub each : (j : ℕ) → j < i → 1 ≤ getD widths j 0
+
+module _ (s : List ℕ) (n p : ℕ) (widths : List ℕ) (sum next i : ℕ) (run : WidthRun s n p widths sum next i) where
+  -- the field that the code reads as a width
+  pub this-width : byte s 4 1 (9 - sum) next ≡ widthAt s (map (λ (w : ℕ). w) (take i widths)) next
+  this-width =
+      let e : total (map (λ (w : ℕ). w) (take i widths)) ≡ sum = ap total (map-id (take i widths)) ∙ sym (run .sums) in
+      let k : 9 - sum ≡ suc (8 - total (map (λ (w : ℕ). w) (take i widths))) = omega (arith, e, run .small) in
+      ap (λ h. byte s 4 1 h next) k
+
+  pub width-on : (w q : ℕ) → n ≤ 4 → i < n → found w q ≡ byte s 4 1 (9 - sum) next → WidthRun s n p (set widths i w) (sum + w) q (i + 1)
+  width-on w q fit l e =
+      let inside : i < length widths = omega (arith, run .going .sized) in
+      let ok = is-within s 4 1 (9 - sum) next w q e in
+      record
+      { going = going-on _ _ _ _ _ _ _ _ (run .going) l w q fit (e ∙ this-width)
+      ; sums = ap (λ k. k + w) (run .sums) ∙ sym (total-set widths i w inside)
+      ; small = omega (arith, ok .1, run .small)
+      ; each =
+        below-more _ _
+        (λ j h. rw (getD-set-other widths i j w 0 (λ e. omega (arith, e, h))) (run .each j h))
+        (rw (getD-set-same widths i w 0 inside) (ok .0)) }
+
+  pub counted : n ≤ 4 → n ≤ i → Counted n widths sum
+  counted fit l =
+      let e : i ≡ n = omega (arith, run .going .within) in
+      record
+      { sized = run .going .sized
+      ; few = fit
+      ; sum = run .sums ∙ ap (λ k. total (take k widths)) e
+      ; small = run .small
+      ; each = λ j h. run .each j (omega (arith, e, h)) }

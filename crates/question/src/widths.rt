@@ -1,0 +1,88 @@
+// The tables' column counts, and the shape that they give.
+ghost use Prim.Native.Nat.{_≤_, _<_};
+ghost use mathlib.Core.Path.{_≡_};
+ghost use mathlib.Core.List.{[]};
+ghost use lib.ListN.{length, take};
+ghost use Rattle.question.specs.Layout as layout;
+ghost use Rattle.question.specs.Reader.{widthAt, many};
+ghost use Rattle.question.specs.Shapes.{WidthsRead, Counted};
+ghost use Rattle.question.specs.Held.{ShapeHeld, widthsOf};
+
+use crate::fields::{Byte, byte_at};
+use crate::types::{Answer, Shape};
+
+// Widths, their sum and the next offset, or a refusal.
+pub struct Widths {
+    pub answer: Answer,
+    pub widths: [usize; 4],
+    pub total: usize,
+    pub next: usize,
+}
+
+pub fn widths_at(s: &[u8], n: usize, p: usize) -> Widths
+    requires { ⌜ n ≤ 4 ⌝ }
+    ensures { λ r. ⌜ WidthsRead n r (many (widthAt (now (s .entry))) n [] p) ⌝ }
+{
+    let mut widths = [0usize; 4];
+    let mut total = 0;
+    let mut next = p;
+    let mut i = 0;
+    while i < n {
+        let b = byte_at(s, 4, 1, 9 - total, next);
+        match b {
+            Byte::Is(w, q) => {
+                let width = w as usize;
+                widths[i] = width;
+                total += width;
+                next = q;
+                i += 1;
+            }
+            Byte::Not(m, at) => {
+                return Widths {
+                    answer: Answer::Refused(m, at),
+                    widths: widths,
+                    total: total,
+                    next: at,
+                };
+            }
+        }
+    }
+    Widths {
+        answer: Answer::Good,
+        widths: widths,
+        total: total,
+        next: next,
+    }
+}
+
+// How many columns the tables before table t have.
+fn first_of(widths: [usize; 4], n: usize, total: usize, t: usize) -> usize
+    requires { ⌜ Counted n widths total ⌝ }
+    requires { ⌜ t ≤ n ⌝ }
+    ensures { λ r. ⌜ r ≡ layout.total (take t widths) ⌝ }
+{
+    let mut sum = 0;
+    let mut i = 0;
+    while i < t {
+        sum += widths[i];
+        i += 1;
+    }
+    sum
+}
+
+pub fn shape_of(widths: [usize; 4], n: usize, total: usize, changed: usize) -> Shape
+    requires { ⌜ Counted n widths total ⌝ }
+    requires { ⌜ changed < n ⌝ }
+    ensures { λ r. ⌜ ShapeHeld r ⌝ }
+    ensures { λ r. ⌜ widthsOf r ≡ take n widths ⌝ }
+    ensures { λ r. ⌜ r .changed ≡ changed ⌝ }
+{
+    Shape {
+        tables: n,
+        changed: changed,
+        widths: widths,
+        first: first_of(widths, n, total, changed),
+        width: widths[changed],
+        total: total,
+    }
+}
