@@ -17,3 +17,4 @@ pub mod Refusals
 pub mod Uniques
 pub mod Totals
 pub mod Visible
+pub mod Chain

@@ -31,3 +31,7 @@ Found (bad n p) = ⊥
 
 pub not-both : {A : Type 0} {a : A} {n p : ℕ} → good a ≡ bad n p → ⊥
 not-both e = subst Found e tt
+
+-- what follows the fields that were found
+pub then-good : {A B : Type 0} (f : A → ℕ → Outcome B) {o : Outcome (At A)} {a : A} {q : ℕ} → found a q ≡ o → f a q ≡ andThen o f
+then-good f e = ap (λ o. andThen o f) e

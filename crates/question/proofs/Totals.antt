@@ -54,21 +54,27 @@ module _ (s : List ℕ) (n p : ℕ) (widths : List ℕ) (sum next i : ℕ) (run 
   width-on w q fit l e =
       let inside : i < length widths = omega (arith, run .going .sized) in
       let ok = is-within s 4 1 (9 - sum) next w q e in
-      record
-      { going = going-on _ _ _ _ _ _ _ _ (run .going) l w q fit (e ∙ this-width)
-      ; sums = ap (λ k. k + w) (run .sums) ∙ sym (total-set widths i w inside)
-      ; small = omega (arith, ok .1, run .small)
-      ; each =
-        below-more _ _
-        (λ j h. rw (getD-set-other widths i j w 0 (λ e. omega (arith, e, h))) (run .each j h))
-        (rw (getD-set-same widths i w 0 inside) (ok .0)) }
+      record {
+        going = going-on _ _ _ _ _ _ _ _ (run .going) l w q fit (e ∙ this-width);
+        sums = ap (λ k. k + w) (run .sums) ∙ sym (total-set widths i w inside);
+        small = omega (arith, ok .1, run .small);
+        each =
+            below-more _ _
+            (λ j h. rw (getD-set-other widths i j w 0 (λ e. omega (arith, e, h))) (run .each j h))
+            (rw (getD-set-same widths i w 0 inside) (ok .0));
+      }
 
   pub counted : n ≤ 4 → n ≤ i → Counted n widths sum
   counted fit l =
       let e : i ≡ n = omega (arith, run .going .within) in
-      record
-      { sized = run .going .sized
-      ; few = fit
-      ; sum = run .sums ∙ ap (λ k. total (take k widths)) e
-      ; small = run .small
-      ; each = λ j h. run .each j (omega (arith, e, h)) }
+      record {
+        sized = run .going .sized;
+        few = fit;
+        sum = run .sums ∙ ap (λ k. total (take k widths)) e;
+        small = run .small;
+        each = λ j h. run .each j (omega (arith, e, h));
+      }
+
+-- the changed table lies inside
+pub inside : (ws : List ℕ) (i n : ℕ) → i < n → i < length ws → total (take i ws) + getD ws i 0 ≤ total (take n ws)
+inside ws i n l h = omega (arith, total-more ws i h, total-le ws (i + 1) n (omega arith))

@@ -7,9 +7,12 @@ ghost use Rattle.question.specs.Layout.{visibleFrom};
 ghost use Rattle.question.specs.Reader.{columnAt, many};
 ghost use Rattle.question.specs.Held.{columnOf};
 ghost use Rattle.question.specs.Shapes.{pillarOf, highAt, PillarsRead, some};
-
-use crate::fields::{Byte, Number, byte_at, number_at};
-use crate::types::{Answer, Column};
+use crate::fields::Byte;
+use crate::fields::Number;
+use crate::fields::byte_at;
+use crate::fields::number_at;
+use crate::types::Answer;
+use crate::types::Column;
 
 // A column and the offset after it, or a refusal.
 pub enum Pillar {

@@ -7,9 +7,10 @@ ghost use Rattle.question.specs.Layout as layout;
 ghost use Rattle.question.specs.Reader.{widthAt, many};
 ghost use Rattle.question.specs.Shapes.{WidthsRead, Counted};
 ghost use Rattle.question.specs.Held.{ShapeHeld, widthsOf};
-
-use crate::fields::{Byte, byte_at};
-use crate::types::{Answer, Shape};
+use crate::fields::Byte;
+use crate::fields::byte_at;
+use crate::types::Answer;
+use crate::types::Shape;
 
 // Widths, their sum and the next offset, or a refusal.
 pub struct Widths {

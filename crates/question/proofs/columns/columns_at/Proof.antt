@@ -13,7 +13,7 @@ use Rattle.question.proofs.columns.columns_at.Lts as lts
 use Rattle.question.proofs.columns.column_at.Reads as column-at-reads
 
 abbrev Inv-loop : tie.InvT-loop
-Inv-loop s n p columns₀ next₀ i₀ columns next i = 
+Inv-loop s n p columns₀ next₀ i₀ columns next i =
     Going (λ cs q. columnAt s q) columnOf 8 n (many (λ cs q. columnAt s q) n [] p) columns i next
 
 abbrev μ-loop : tie.MeasureT-loop
@@ -54,11 +54,12 @@ returns : tie.Need-returns Inv-loop μ-loop
 returns c =
     let w = c .before in
     let l = w .before .before .before .before in
-    record
-    { meaning =
-    going-bad _ _ _ _ _ _ _ _ (l .loop .inv) (w .before .before .before .loop-test .taken) _ _
-    (sym (ap pillarOf (w .pillar2 .given .1)) ∙ w .before .before .column-at .ensures)
-    ; sized = l .loop .inv .sized }
+    record {
+      meaning =
+          going-bad _ _ _ _ _ _ _ _ (l .loop .inv) (w .before .before .before .loop-test .taken) _ _
+          (sym (ap pillarOf (w .pillar2 .given .1)) ∙ w .before .before .column-at .ensures);
+      sized = l .loop .inv .sized;
+    }
 
 returns-2 : tie.Need-returns-2 Inv-loop μ-loop
 returns-2 c = record { meaning = going-end _ _ _ _ _ _ _ _ (c .before .loop .inv) (c .loop-test .left); sized = c .before .loop .inv .sized }

@@ -63,18 +63,20 @@ returns : tie.Need-returns Inv-loop μ-loop
 returns c =
     let b = c .before in
     let l = b .before .before .before .before in
-    record
-    { meaning =
-    going-bad _ _ _ _ _ _ _ _ (l .loop .inv .going) (b .before .before .before .loop-test .taken) _ _
-    (sym (ap byteOf (b .b2 .given .1)) ∙ b .before .before .byte-at .ensures ∙ this-width _ _ _ _ _ _ _ (l .loop .inv))
-    ; counted = search needs }
+    record {
+      meaning =
+          going-bad _ _ _ _ _ _ _ _ (l .loop .inv .going) (b .before .before .before .loop-test .taken) _ _
+          (sym (ap byteOf (b .b2 .given .1)) ∙ b .before .before .byte-at .ensures ∙ this-width _ _ _ _ _ _ _ (l .loop .inv));
+      counted = search needs;
+    }
 
 returns-2 : tie.Need-returns-2 Inv-loop μ-loop
 returns-2 c =
     let l = c .before in
-    record
-    { meaning = going-end _ _ _ _ _ _ _ _ (l .loop .inv .going) (c .loop-test .left)
-    ; counted = counted _ _ _ _ _ _ _ (l .loop .inv) (l .before .before .pre) (c .loop-test .left) }
+    record {
+      meaning = going-end _ _ _ _ _ _ _ _ (l .loop .inv .going) (c .loop-test .left);
+      counted = counted _ _ _ _ _ _ _ (l .loop .inv) (l .before .before .pre) (c .loop-test .left);
+    }
 
 pub widths-at-spec : {M : Type 1} → statement M
 widths-at-spec =

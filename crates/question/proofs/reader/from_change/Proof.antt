@@ -1,0 +1,65 @@
+use denote.Ref.{now}
+use mathlib.Core.Path.{refl, sym, ap, _∙_}
+use Rattle.question.specs.Reader.{fromChange}
+use Rattle.question.specs.Held.{questionOf}
+use Rattle.question.specs.Pieces.{deedBy}
+use Rattle.question.specs.declared.types.Answer.{Answer}
+use Rattle.question.proofs.Steps.{then-good, on-bad}
+use Rattle.question.proofs.Chain.{reads-as, change-field}
+use borrow.Author.Needs.{needs}
+use Rattle.question.proofs.reader.from_change.Statement.{statement}
+use Rattle.question.proofs.reader.from_change.Tie as tie
+use Rattle.question.proofs.reader.from_change.Reads as reads
+use Rattle.question.proofs.reader.from_change.Lts as lts
+use Rattle.question.proofs.change.change_at.Reads as change-at-reads
+use Rattle.question.proofs.reader.ended.Reads as ended-reads
+use Rattle.question.proofs.reader.refusal.Reads as refusal-reads
+
+change-at-requires : tie.Need-change-at-requires
+change-at-requires c κs = search needs
+
+enum-told : tie.Need-enum-told
+enum-told c = search needs
+
+ended-requires : tie.Need-ended-requires
+ended-requires c κs = search needs
+
+enum-known-answer : tie.Need-enum-known-answer
+enum-known-answer c = search needs
+
+refusal-requires : tie.Need-refusal-requires
+refusal-requires c κs = search needs
+
+returns : tie.Need-returns
+unfolding fromChange questionOf
+returns c =
+    let t = c .before in
+    let d = t .before .before .before in
+    let r = d .change-at .result in
+    let a = d .before .before in
+    reads-as
+    (then-good _ (sym (ap (λ (x : Answer). deedBy x (a .args .shape .width) (r .change) (r .next)) (t .enum-told .given .1)) ∙ d .change-at .ensures .meaning ∙ change-field (a .args .shape) (a .pre .0) (a .args .columns) (now (a .args .s)) (a .args .kind) (a .args .p)))
+    (c .ended .ensures)
+
+returns-2 : tie.Need-returns-2
+unfolding fromChange
+returns-2 c =
+    let t = c .before .before in
+    let d = t .before .before .before in
+    let r = d .change-at .result in
+    let a = d .before .before in
+    reads-as
+    (on-bad _ (sym (ap (λ (x : Answer). deedBy x (a .args .shape .width) (r .change) (r .next)) (t .answer .given .1)) ∙ d .change-at .ensures .meaning ∙ change-field (a .args .shape) (a .pre .0) (a .args .columns) (now (a .args .s)) (a .args .kind) (a .args .p)))
+    (c .refusal .ensures)
+
+pub from-change-spec : {M : Type 1} → statement M
+from-change-spec =
+    tie.close
+    (tie.spec
+    change-at-requires
+    enum-told
+    ended-requires
+    enum-known-answer
+    refusal-requires
+    returns
+    returns-2)
