@@ -13,15 +13,21 @@ ghost use Rattle.grid.specs.Search.{least, first, best, greedy, search};
 ghost use Rattle.grid.specs.Found.{cycleOf, Opens, Ways};
 ghost use Rattle.grid.specs.Near.{relax, nearBlank};
 
+// Vertex numbers are below it.
+pub const VERTICES: usize = 17;
+
+// The weight of a missing edge.
+const FAR: i64 = 1099511627776;
+
 // No fact at all: every edge is missing.
-pub fn blank() -> [[i64; 17]; 17]
+pub fn blank() -> [[i64; VERTICES]; VERTICES]
     ensures { λ r. ⌜ r ≡ blank mostVertices ⌝ }
 {
-    [[1099511627776; 17]; 17]
+    [[FAR; VERTICES]; VERTICES]
 }
 
 // The weight of the edge between two vertices.
-pub fn edge(g: [[i64; 17]; 17], from: usize, to: usize) -> i64
+pub fn edge(g: [[i64; VERTICES]; VERTICES], from: usize, to: usize) -> i64
     requires { ⌜ (from < mostVertices) × (to < mostVertices) ⌝ }
     ensures { λ r. ⌜ r ≡ weight g from to ⌝ }
 {
@@ -35,7 +41,12 @@ fn lesser(a: i64, b: i64) -> i64
 }
 
 // One more fact: the grid with one tightened edge.
-pub fn tighten(g: [[i64; 17]; 17], from: usize, to: usize, k: i64) -> [[i64; 17]; 17]
+pub fn tighten(
+    g: [[i64; VERTICES]; VERTICES],
+    from: usize,
+    to: usize,
+    k: i64,
+) -> [[i64; VERTICES]; VERTICES]
     requires { ⌜ (from < mostVertices) × (to < mostVertices) ⌝ }
     ensures { λ r. ⌜ r ≡ tighten g from to k ⌝ }
 {
@@ -46,18 +57,18 @@ pub fn tighten(g: [[i64; 17]; 17], from: usize, to: usize, k: i64) -> [[i64; 17]
 }
 
 // The least sums where there is no fact: 0 from each vertex to itself.
-pub fn near_blank() -> [[i64; 17]; 17]
+pub fn near_blank() -> [[i64; VERTICES]; VERTICES]
     ensures { λ r. ⌜ r ≡ tabled nearBlank mostVertices (blank mostVertices) ⌝ }
 {
-    let mut h = [[1099511627776; 17]; 17];
-    for u in 0..17 {
+    let mut h = [[FAR; VERTICES]; VERTICES];
+    for u in 0..VERTICES {
         h[u][u] = 0;
     }
     h
 }
 
 // One row of the least sums with a new edge: reach is the sum of the way to the edge and along it, on the row of the way on.
-fn relax_row(row: [i64; 17], on: [i64; 17], n: usize, reach: i64) -> [i64; 17]
+fn relax_row(row: [i64; VERTICES], on: [i64; VERTICES], n: usize, reach: i64) -> [i64; VERTICES]
     requires { ⌜ n ≤ mostVertices ⌝ }
     requires { ⌜ Bounded wide reach ⌝ }
     requires { ⌜ RowWithin wide n on ⌝ }
@@ -72,7 +83,13 @@ fn relax_row(row: [i64; 17], on: [i64; 17], n: usize, reach: i64) -> [i64; 17]
 }
 
 // The least sums with a new edge from b to a of weight k.
-pub fn relax(near: [[i64; 17]; 17], n: usize, b: usize, a: usize, k: i64) -> [[i64; 17]; 17]
+pub fn relax(
+    near: [[i64; VERTICES]; VERTICES],
+    n: usize,
+    b: usize,
+    a: usize,
+    k: i64,
+) -> [[i64; VERTICES]; VERTICES]
     requires { ⌜ (n ≤ mostVertices) × (b < n) × (a < n) ⌝ }
     requires { ⌜ Bounded farN k ⌝ }
     requires { ⌜ AllWithin farN n near ⌝ }
@@ -90,7 +107,7 @@ pub fn relax(near: [[i64; 17]; 17], n: usize, b: usize, a: usize, k: i64) -> [[i
 }
 
 // The sum of a closed walk: along its edges and back to the first vertex.
-pub fn closing(g: [[i64; 17]; 17], vertices: &[u8]) -> i64
+pub fn closing(g: [[i64; VERTICES]; VERTICES], vertices: &[u8]) -> i64
     requires { ⌜ (0 < length (now vertices)) × (length (now vertices) ≤ mostVertices) × Below mostVertices (now vertices) ⌝ }
     requires { ⌜ AllWithin farN mostVertices g ⌝ }
     ensures { λ r. ⌜ r ≡ closed (weight g) (now (vertices .entry)) ⌝ }
@@ -108,7 +125,7 @@ pub fn closing(g: [[i64; 17]; 17], vertices: &[u8]) -> i64
 }
 
 // The weights of the edges into s, from each vertex below n.
-fn column(g: [[i64; 17]; 17], n: usize, s: usize) -> [i64; 17]
+fn column(g: [[i64; VERTICES]; VERTICES], n: usize, s: usize) -> [i64; VERTICES]
     requires { ⌜ (n ≤ mostVertices) × (s < n) ⌝ }
     ensures { λ r. ⌜ r ≡ filled (λ v. weight g v s) n (row g s) ⌝ }
 {
@@ -120,7 +137,7 @@ fn column(g: [[i64; 17]; 17], n: usize, s: usize) -> [i64; 17]
 }
 
 // The least sums of one edge, a row for each vertex that it goes to.
-fn single(g: [[i64; 17]; 17], n: usize) -> [[i64; 17]; 17]
+fn single(g: [[i64; VERTICES]; VERTICES], n: usize) -> [[i64; VERTICES]; VERTICES]
     requires { ⌜ n ≤ mostVertices ⌝ }
     ensures { λ r. ⌜ r ≡ tabled (λ s v. weight g v s) n g ⌝ }
 {
@@ -132,7 +149,7 @@ fn single(g: [[i64; 17]; 17], n: usize) -> [[i64; 17]; 17]
 }
 
 // The least sum of an edge to a vertex below n and the way on from there.
-fn least_sum(edges: [i64; 17], on: [i64; 17], n: usize) -> i64
+fn least_sum(edges: [i64; VERTICES], on: [i64; VERTICES], n: usize) -> i64
     requires { ⌜ (0 < n) × (n ≤ mostVertices) ⌝ }
     requires { ⌜ RowWithin wide n edges ⌝ }
     requires { ⌜ RowWithin wide n on ⌝ }
@@ -147,7 +164,7 @@ fn least_sum(edges: [i64; 17], on: [i64; 17], n: usize) -> i64
 }
 
 // One edge more: from each vertex the least sum of an edge and the way on.
-fn longer(g: [[i64; 17]; 17], on: [i64; 17], n: usize) -> [i64; 17]
+fn longer(g: [[i64; VERTICES]; VERTICES], on: [i64; VERTICES], n: usize) -> [i64; VERTICES]
     requires { ⌜ (0 < n) × (n ≤ mostVertices) ⌝ }
     requires { ⌜ AllWithin farN n g ⌝ }
     requires { ⌜ RowWithin wide n on ⌝ }
@@ -163,7 +180,11 @@ fn longer(g: [[i64; 17]; 17], on: [i64; 17], n: usize) -> [i64; 17]
 }
 
 // One edge more for every start.
-fn further(g: [[i64; 17]; 17], sums: [[i64; 17]; 17], n: usize) -> [[i64; 17]; 17]
+fn further(
+    g: [[i64; VERTICES]; VERTICES],
+    sums: [[i64; VERTICES]; VERTICES],
+    n: usize,
+) -> [[i64; VERTICES]; VERTICES]
     requires { ⌜ (0 < n) × (n ≤ mostVertices) ⌝ }
     requires { ⌜ AllWithin farN n g ⌝ }
     requires { ⌜ AllWithin wide n sums ⌝ }
@@ -179,7 +200,7 @@ fn further(g: [[i64; 17]; 17], sums: [[i64; 17]; 17], n: usize) -> [[i64; 17]; 1
 }
 
 // The first vertex below n by which the walk can still close below zero, where sum is the way so far; n if there is none.
-fn first_closing(edges: [i64; 17], on: [i64; 17], n: usize, sum: i64) -> usize
+fn first_closing(edges: [i64; VERTICES], on: [i64; VERTICES], n: usize, sum: i64) -> usize
     requires { ⌜ n ≤ mostVertices ⌝ }
     requires { ⌜ Bounded wide sum ⌝ }
     requires { ⌜ RowWithin wide n edges ⌝ }
@@ -201,7 +222,7 @@ struct Opening {
 }
 
 // The fewest vertices of a negative closed walk, and the first vertex that has one with so many; count 0 if there is none.
-fn shortest(g: [[i64; 17]; 17], n: usize) -> Opening
+fn shortest(g: [[i64; VERTICES]; VERTICES], n: usize) -> Opening
     requires { ⌜ (0 < n) × (n ≤ mostVertices) ⌝ }
     requires { ⌜ AllWithin farN n g ⌝ }
     ensures { λ r. ⌜ Opens (weight g) (n - 1) (r .count) (r .start) ⌝ }
@@ -223,7 +244,12 @@ fn shortest(g: [[i64; 17]; 17], n: usize) -> Opening
 }
 
 // The least sums of the walks back to s, row by row one edge more.
-fn ways(g: [[i64; 17]; 17], n: usize, s: usize, count: usize) -> [[i64; 17]; 17]
+fn ways(
+    g: [[i64; VERTICES]; VERTICES],
+    n: usize,
+    s: usize,
+    count: usize,
+) -> [[i64; VERTICES]; VERTICES]
     requires { ⌜ (0 < n) × (n ≤ mostVertices) × (s < n) × (0 < count) × (count ≤ n) ⌝ }
     requires { ⌜ AllWithin farN n g ⌝ }
     ensures { λ r. ⌜ Ways g n s count r ⌝ }
@@ -242,18 +268,24 @@ fn ways(g: [[i64; 17]; 17], n: usize, s: usize, count: usize) -> [[i64; 17]; 17]
 // A closed walk: its vertices are the first count of the list; count 0 stands for none.
 pub struct Cycle {
     pub count: usize,
-    pub vertices: [u8; 17],
+    pub vertices: [u8; VERTICES],
 }
 
 // The least list of count vertices that starts at start and closes below zero.
-fn trace(g: [[i64; 17]; 17], ways: [[i64; 17]; 17], n: usize, start: usize, count: usize) -> Cycle
+fn trace(
+    g: [[i64; VERTICES]; VERTICES],
+    ways: [[i64; VERTICES]; VERTICES],
+    n: usize,
+    start: usize,
+    count: usize,
+) -> Cycle
     requires { ⌜ (0 < n) × (n ≤ mostVertices) × (start < n) × (0 < count) × (count ≤ n) ⌝ }
     requires { ⌜ AllWithin farN n g ⌝ }
     requires { ⌜ Ways g n start count ways ⌝ }
     requires { ⌜ best (weight g) (n - 1) (count - 1) start start <ℤ pos 0 ⌝ }
     ensures { λ r. ⌜ (r .count ≡ count) × (take count (r .vertices) ≡ start ∷ greedy (weight g) (n - 1) (count - 1) start (pos 0) start) ⌝ }
 {
-    let mut vertices = [0u8; 17];
+    let mut vertices = [0u8; VERTICES];
     vertices[0] = start as u8;
     let mut at = start;
     let mut sum: i64 = 0;
@@ -269,7 +301,7 @@ fn trace(g: [[i64; 17]; 17], ways: [[i64; 17]; 17], n: usize, start: usize, coun
 }
 
 // The negative closed walk among the vertices below n with the fewest edges, then the least vertex list.
-pub fn search(g: [[i64; 17]; 17], n: usize) -> Cycle
+pub fn search(g: [[i64; VERTICES]; VERTICES], n: usize) -> Cycle
     requires { ⌜ (0 < n) × (n ≤ mostVertices) ⌝ }
     requires { ⌜ AllWithin farN n g ⌝ }
     ensures { λ r. ⌜ (cycleOf r ≡ search (weight g) (n - 1)) × (r .count ≤ n) ⌝ }
@@ -280,7 +312,7 @@ pub fn search(g: [[i64; 17]; 17], n: usize) -> Cycle
     if count == 0 {
         return Cycle {
             count: 0,
-            vertices: [0; 17],
+            vertices: [0; VERTICES],
         };
     }
     let back = ways(g, n, start, count);

@@ -1,5 +1,6 @@
 use mathlib.Core.Path.{_∙_}
 use mir.Facts.{toZ-ofZ}
+use Rattle.meaning.specs.Limits.{mostVertices}
 use Rattle.grid.proofs.Rows.{read, sized}
 use borrow.Author.Needs.{needs}
 use Rattle.grid.proofs.edge.Statement.{statement}
@@ -27,7 +28,7 @@ index-2-result c = search needs
 returns : tie.Need-returns
 returns c =
     let a = c .before .args in
-    toZ-ofZ (record { sfits = c .result .given }) ∙ read 17 (a .t1) (a .from) (a .to) (sized 17 (a .t1) _ (c .before .good .0)) (c .before .pre .0) (c .before .pre .1)
+    toZ-ofZ (record { sfits = c .result .given }) ∙ read mostVertices (a .t1) (a .from) (a .to) (sized mostVertices (a .t1) _ (c .before .good .0)) (c .before .pre .0) (c .before .pre .1)
 
 pub edge-spec : {M : Type 1} → statement M
 edge-spec = tie.close (tie.spec mul-result mul-result-2 index-1-result index-2-result returns)

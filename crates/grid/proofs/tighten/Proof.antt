@@ -5,6 +5,7 @@ use mir.Syntax.{w64}
 use mir.Val.{SFits}
 use mir.Facts.{toZ-ofZ}
 use Rattle.ints.proofs.Bridge.{minZ}
+use Rattle.meaning.specs.Limits.{mostVertices}
 use Rattle.grid.specs.Grid.{row, tighten}
 use Rattle.grid.proofs.Rows.{read, sized}
 use borrow.Author.Needs.{needs}
@@ -59,7 +60,7 @@ returns c =
     ap (λ (z : ℤ). set (a .t1) (a .from) (set (row (a .t1) (a .from)) (a .to) z))
     (toZ-ofZ (record { sfits = c .lesser .ok })
     ∙ (simp (toZ-ofZ, c .before .before .fits .k, old) at (c .lesser .ensures))
-    ∙ ap (λ (z : ℤ). minZ z (a .k)) (read 17 (a .t1) (a .from) (a .to) (sized 17 (a .t1) _ (c .before .before .good .0)) (c .before .before .pre .0) (c .before .before .pre .1)))
+    ∙ ap (λ (z : ℤ). minZ z (a .k)) (read mostVertices (a .t1) (a .from) (a .to) (sized mostVertices (a .t1) _ (c .before .before .good .0)) (c .before .before .pre .0) (c .before .before .pre .1)))
 
 pub tighten-spec : {M : Type 1} → statement M
 tighten-spec =
