@@ -21,7 +21,7 @@ pub mod Writes
 pub mod Sheets
 pub mod Named
 pub mod Cycles
-pub mod Branches
+pub mod Standing
 pub mod Bounds
 pub mod Twelves
 pub mod Positions
@@ -29,3 +29,7 @@ pub mod Columns
 pub mod Demands
 pub mod Growths
 pub mod Halves
+pub mod Allowed
+pub mod FieldRun
+pub mod Valued
+pub mod Truths

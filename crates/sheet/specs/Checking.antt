@@ -44,16 +44,20 @@ pub record Named (shown : List Bool) (count : ℕ) (bytes : List ℕ) (r : Namin
 
 -- ---- a compiled formula, lent part by part
 
--- what the code may take for granted of it: it fits, and its vertices and weights are those of the grid
-pub record Lendable (kinds left right : List ℕ) (most : List ℤ) (shown : List Bool) : Type 0 where
-  pub short : length kinds ≤ 320
+-- what the code may take for granted of its places: they are few, between vertices of the grid, and their weights are small
+pub record Places (left right : List ℕ) (most : List ℤ) : Type 0 where
   pub few : length left ≤ mostDecisions
   pub rights : length right ≡ length left
   pub mosts : length most ≡ length left
-  pub flags : length shown ≤ mostVertices
   pub left-below : Below mostVertices left
   pub right-below : Below mostVertices right
   pub small : (i : ℕ) → i < length most → Bounded least-weight (getD most i (pos 0))
+
+-- and of all of it
+pub record Lendable (kinds left right : List ℕ) (most : List ℤ) (shown : List Bool) : Type 0 where
+  pub short : length kinds ≤ 320
+  pub places : Places left right most
+  pub flags : length shown ≤ mostVertices
 
 -- it is the formula: its kinds, its places, and which vertices it has
 pub record Lent (F : Formula) (ks ls rs : List ℕ) (ms : List ℤ) (flags : List Bool) : Type 0 where

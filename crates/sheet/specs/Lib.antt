@@ -11,3 +11,4 @@ pub mod Demands
 pub mod Checking
 pub mod Twelve
 pub mod Growing
+pub mod NoSheet

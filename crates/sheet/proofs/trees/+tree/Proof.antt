@@ -8,7 +8,7 @@ use mir.Facts.{toZ-ofZ}
 use Rattle.meaning.specs.Limits.{mostVertices}
 use Rattle.grid.proofs.Round.{below-at}
 use Rattle.sheet.specs.Facts.{decide}
-use Rattle.sheet.proofs.Branches.{placeAt, left-end, left-false, left-cycle, left-other, left-none, left-bad, left-both}
+use Rattle.sheet.proofs.Standing.{placeAt, left-end, left-false, left-cycle, left-other, left-none, left-bad, left-both}
 use Rattle.sheet.proofs.Bounds.{decide-within}
 use Prim.Native.Nat.{ℕ, _<_}
 use borrow.Fn.Kinds.{In}
@@ -45,7 +45,7 @@ tree-sub-decided : (t : ℕ) → tree-lts.Need-sub-decided (calls t) (tree-at t)
 tree-sub-decided t c = search needs
 
 tree-false-leaf-requires : (t : ℕ) → tree-lts.Need-false-leaf-requires (calls t) (tree-at t) tree.Post
-tree-false-leaf-requires t c κs = let s = c .before .before .before .before .before .before .before .before in (s .pre .1 .0 .short, omega (arith, s .pre .1 .0 .few), c .before .before .if1 .left)
+tree-false-leaf-requires t c κs = let s = c .before .before .before .before .before .before .before .before in (s .pre .1 .0 .short, omega (arith, s .pre .1 .0 .places .few), c .before .before .if1 .left)
 
 tree-returns-2 : (t : ℕ) → tree-lts.Need-returns-2 (calls t) (tree-at t) tree.Post
 tree-returns-2 t c = λ F base lent.
@@ -74,26 +74,26 @@ tree-shared-slice-read-a : (t : ℕ) → tree-lts.Need-shared-slice-read-a (call
 tree-shared-slice-read-a t c = search needs
 
 tree-shared-slice-read-b : (t : ℕ) → tree-lts.Need-shared-slice-read-b (calls t) (tree-at t) tree.Post
-tree-shared-slice-read-b t c = omega (arith, c .before .before .before .before .before .before .before .before .before .before .before .before .before .pre .1 .0 .rights, c .before .before .before .before .before .before .before .before .before .before .before .before .before .pre .1 .1 .0, c .before .before .if5 .left)
+tree-shared-slice-read-b t c = omega (arith, c .before .before .before .before .before .before .before .before .before .before .before .before .before .pre .1 .0 .places .rights, c .before .before .before .before .before .before .before .before .before .before .before .before .before .pre .1 .1 .0, c .before .before .if5 .left)
 
 tree-mul-k : (t : ℕ) → tree-lts.Need-mul-k (calls t) (tree-at t) tree.Post
-tree-mul-k t c = omega (arith, c .before .before .before .before .before .before .before .before .before .before .before .before .before .pre .1 .0 .few)
+tree-mul-k t c = omega (arith, c .before .before .before .before .before .before .before .before .before .before .before .before .before .pre .1 .0 .places .few)
 
 tree-shared-slice-copy-out-k : (t : ℕ) → tree-lts.Need-shared-slice-copy-out-k (calls t) (tree-at t) tree.Post
-tree-shared-slice-copy-out-k t c = omega (arith, c .before .before .before .before .before .before .before .before .before .before .before .before .before .pre .1 .0 .mosts, c .before .before .before .before .before .before .before .before .before .before .before .before .before .pre .1 .1 .0, c .before .before .if5 .left)
+tree-shared-slice-copy-out-k t c = omega (arith, c .before .before .before .before .before .before .before .before .before .before .before .before .before .pre .1 .0 .places .mosts, c .before .before .before .before .before .before .before .before .before .before .before .before .before .pre .1 .1 .0, c .before .before .if5 .left)
 
 tree-sub-less : (t : ℕ) → tree-lts.Need-sub-less (calls t) (tree-at t) tree.Post
 tree-sub-less t c = omega (arith, c .before .before .before .if5 .left)
 
 tree-array-write-next : (t : ℕ) → tree-lts.Need-array-write-next (calls t) (tree-at t) tree.Post
-tree-array-write-next t c = omega (arith, c .before .before .before .before .before .before .before .before .before .before .before .before .before .before .pre .1 .0 .few, c .before .before .before .before .before .before .before .before .before .before .before .before .before .before .pre .1 .1 .0, c .before .before .before .if5 .left)
+tree-array-write-next t c = omega (arith, c .before .before .before .before .before .before .before .before .before .before .before .before .before .before .pre .1 .0 .places .few, c .before .before .before .before .before .before .before .before .before .before .before .before .before .before .pre .1 .1 .0, c .before .before .before .if5 .left)
 
 tree-decide-requires : (t : ℕ) → tree-lts.Need-decide-requires (calls t) (tree-at t) tree.Post
 tree-decide-requires t c κs = let s = c .before .before .before .before .before .before .before .before .before .before .before .before .before .before in
     let l = s .args .left .now in
     let d = length l - s .args .todo in
     let i : d < length l = omega (arith, c .before .before .before .if5 .left, s .pre .1 .1 .0) in
-    (below-at mostVertices l d (s .pre .1 .0 .left-below) i, below-at mostVertices (s .args .right .now) d (s .pre .1 .0 .right-below) (omega (arith, i, s .pre .1 .0 .rights)))
+    (below-at mostVertices l d (s .pre .1 .0 .places .left-below) i, below-at mostVertices (s .args .right .now) d (s .pre .1 .0 .places .right-below) (omega (arith, i, s .pre .1 .0 .places .rights)))
 
 tree-add-tree : (t : ℕ) → tree-lts.Need-add-tree (calls t) (tree-at t) tree.Post
 tree-add-tree t c = search needs
@@ -105,21 +105,21 @@ tree-tree-requires : (t : ℕ) → tree-lts.Need-tree-requires (calls t) (tree-a
 tree-tree-requires t c κs = let s = c .before .before .before .before .before .before .before .before .before .before .before .before .before .before .before in
     let l = s .args .left .now in
     let d = length l - s .args .todo in
-    let i : d < length (s .args .most .now) = omega (arith, c .before .before .before .before .if5 .left, s .pre .1 .1 .0, s .pre .1 .0 .mosts) in
-    (omega (arith, c .before .before .before .before .if5 .left, s .pre .0), (s .pre .1 .0, (omega (arith, s .pre .1 .1 .0), rw (first-fact t c) (decide-within mostVertices (s .args .g) (placeAt l (s .args .right .now) (s .args .most .now) d) true (s .pre .1 .1 .1) (s .pre .1 .0 .small d i)))))
+    let i : d < length (s .args .most .now) = omega (arith, c .before .before .before .before .if5 .left, s .pre .1 .1 .0, s .pre .1 .0 .places .mosts) in
+    (omega (arith, c .before .before .before .before .if5 .left, s .pre .0), (s .pre .1 .0, (omega (arith, s .pre .1 .1 .0), rw (first-fact t c) (decide-within mostVertices (s .args .g) (placeAt l (s .args .right .now) (s .args .most .now) d) true (s .pre .1 .1 .1) (s .pre .1 .0 .places .small d i)))))
 
 tree-enum-known-one : (t : ℕ) → tree-lts.Need-enum-known-one (calls t) (tree-at t) tree.Post
 tree-enum-known-one t c = search needs
 
 tree-array-write-next-2 : (t : ℕ) → tree-lts.Need-array-write-next-2 (calls t) (tree-at t) tree.Post
-tree-array-write-next-2 t c = omega (arith, c .before .before .before .before .before .before .before .before .before .before .before .before .before .before .before .before .before .before .before .pre .1 .0 .few, c .before .before .before .before .before .before .before .before .before .before .before .before .before .before .before .before .before .before .before .pre .1 .1 .0, c .before .before .before .before .before .before .before .before .if5 .left)
+tree-array-write-next-2 t c = omega (arith, c .before .before .before .before .before .before .before .before .before .before .before .before .before .before .before .before .before .before .before .pre .1 .0 .places .few, c .before .before .before .before .before .before .before .before .before .before .before .before .before .before .before .before .before .before .before .pre .1 .1 .0, c .before .before .before .before .before .before .before .before .if5 .left)
 
 tree-decide-requires-2 : (t : ℕ) → tree-lts.Need-decide-requires-2 (calls t) (tree-at t) tree.Post
 tree-decide-requires-2 t c κs = let s = c .before .before .before .before .before .before .before .before .before .before .before .before .before .before .before .before .before .before .before in
     let l = s .args .left .now in
     let d = length l - s .args .todo in
     let i : d < length l = omega (arith, c .before .before .before .before .before .before .before .before .if5 .left, s .pre .1 .1 .0) in
-    (below-at mostVertices l d (s .pre .1 .0 .left-below) i, below-at mostVertices (s .args .right .now) d (s .pre .1 .0 .right-below) (omega (arith, i, s .pre .1 .0 .rights)))
+    (below-at mostVertices l d (s .pre .1 .0 .places .left-below) i, below-at mostVertices (s .args .right .now) d (s .pre .1 .0 .places .right-below) (omega (arith, i, s .pre .1 .0 .places .rights)))
 
 second-fact : (t : ℕ) (c : tree-lts.After-decide2 (calls t) (tree-at t) tree.Post) → let a = c .before .before .before .before .before .before .before .before .before .before .before .before .before .before .before .before .before .before .before .before .args in c .decide2 .result ≡ decide (a .g) (placeAt (a .left .now) (a .right .now) (a .most .now) (length (a .left .now) - a .todo)) false
 second-fact t c = c .decide2 .ensures ∙ rw (toZ-ofZ (record { sfits = c .before .before .before .before .before .before .k .given }))
@@ -128,8 +128,8 @@ tree-tree-requires-2 : (t : ℕ) → tree-lts.Need-tree-requires-2 (calls t) (tr
 tree-tree-requires-2 t c κs = let s = c .before .before .before .before .before .before .before .before .before .before .before .before .before .before .before .before .before .before .before .before in
     let l = s .args .left .now in
     let d = length l - s .args .todo in
-    let i : d < length (s .args .most .now) = omega (arith, c .before .before .before .before .before .before .before .before .before .if5 .left, s .pre .1 .1 .0, s .pre .1 .0 .mosts) in
-    (omega (arith, c .before .before .before .before .before .before .before .before .before .if5 .left, s .pre .0), (s .pre .1 .0, (omega (arith, s .pre .1 .1 .0), rw (second-fact t c) (decide-within mostVertices (s .args .g) (placeAt l (s .args .right .now) (s .args .most .now) d) false (s .pre .1 .1 .1) (s .pre .1 .0 .small d i)))))
+    let i : d < length (s .args .most .now) = omega (arith, c .before .before .before .before .before .before .before .before .before .if5 .left, s .pre .1 .1 .0, s .pre .1 .0 .places .mosts) in
+    (omega (arith, c .before .before .before .before .before .before .before .before .before .if5 .left, s .pre .0), (s .pre .1 .0, (omega (arith, s .pre .1 .1 .0), rw (second-fact t c) (decide-within mostVertices (s .args .g) (placeAt l (s .args .right .now) (s .args .most .now) d) false (s .pre .1 .1 .1) (s .pre .1 .0 .places .small d i)))))
 
 tree-enum-known-one-2 : (t : ℕ) → tree-lts.Need-enum-known-one-2 (calls t) (tree-at t) tree.Post
 tree-enum-known-one-2 t c = search needs
@@ -141,7 +141,7 @@ tree-returns-6 t c = λ F base lent.
     let a = s .args in
     let l = a .left .now in
     let d = length l - a .todo in
-    left-both F (a .truths) (a .g) (a .part .now) (a .at) base (a .todo) (e .before .before .before .before .before .before .before .before .before .before .if1 .left) (e .before .before .before .before .before .before .if4 .left) (a .kinds .now) l (a .right .now) (a .most .now) (a .shown .now) lent (e .before .before .before .before .before .if5 .left) (s .pre .1 .1 .0) d refl (omega (arith, s .good .1 .1 .1 .1 .1 .1 .1 .0, s .pre .1 .0 .few, s .pre .1 .1 .0, e .before .before .before .before .before .if5 .left)) (c .before .before .before .one .given .0 .0) _
+    left-both F (a .truths) (a .g) (a .part .now) (a .at) base (a .todo) (e .before .before .before .before .before .before .before .before .before .before .if1 .left) (e .before .before .before .before .before .before .if4 .left) (a .kinds .now) l (a .right .now) (a .most .now) (a .shown .now) lent (e .before .before .before .before .before .if5 .left) (s .pre .1 .1 .0) d refl (omega (arith, s .good .1 .1 .1 .1 .1 .1 .1 .0, s .pre .1 .0 .places .few, s .pre .1 .1 .0, e .before .before .before .before .before .if5 .left)) (c .before .before .before .one .given .0 .0) _
     (rw (first-fact t (e .before), c .before .before .before .one .given .1) at (e .tree .ensures F base lent))
     (rw (second-fact t (c .before)) at (c .tree2 .ensures F base lent))
 
@@ -152,7 +152,7 @@ tree-returns-7 t c = λ F base lent.
     let a = s .args in
     let l = a .left .now in
     let d = length l - a .todo in
-    left-bad F (a .truths) (a .g) (a .part .now) (a .at) base (a .todo) (e .before .before .before .before .before .before .before .before .before .before .if1 .left) (e .before .before .before .before .before .before .if4 .left) (a .kinds .now) l (a .right .now) (a .most .now) (a .shown .now) lent (e .before .before .before .before .before .if5 .left) (s .pre .1 .1 .0) d refl (omega (arith, s .good .1 .1 .1 .1 .1 .1 .1 .0, s .pre .1 .0 .few, s .pre .1 .1 .0, e .before .before .before .before .before .if5 .left)) _ _
+    left-bad F (a .truths) (a .g) (a .part .now) (a .at) base (a .todo) (e .before .before .before .before .before .before .before .before .before .before .if1 .left) (e .before .before .before .before .before .before .if4 .left) (a .kinds .now) l (a .right .now) (a .most .now) (a .shown .now) lent (e .before .before .before .before .before .if5 .left) (s .pre .1 .1 .0) d refl (omega (arith, s .good .1 .1 .1 .1 .1 .1 .1 .0, s .pre .1 .0 .places .few, s .pre .1 .1 .0, e .before .before .before .before .before .if5 .left)) _ _
     (rw (first-fact t (e .before), c .before .one2 .given .1) at (e .tree .ensures F base lent))
 
 pub +tree-spec : {M : Type 1} → statement M

@@ -25,8 +25,16 @@ use Rattle.sheet.proofs.Steps.{check-false, check-cycle, check-empty, c
 abbrev pub placeAt : List ℕ → List ℕ → List ℤ → ℕ → Place
 placeAt ls rs ms i = record { left = getD ls i 0; right = getD rs i 0; most = getD ms i (pos 0) }
 
-abbrev nowhere : Place
+abbrev pub nowhere : Place
 nowhere = record { left = 0; right = 0; most = pos 0 }
+
+-- the places that are lent are the formula's
+module _ (F : Formula) (ks ls rs : List ℕ) (ms : List ℤ) (flags : List Bool) (lent : Lent F ks ls rs ms flags) where
+  pub lent-length : length ls ≡ length (places (F .program))
+  lent-length = ap length (lent .left) ∙ simp length-map
+
+  pub lent-place : (i : ℕ) → placeAt ls rs ms i ≡ getD (places (F .program)) i nowhere
+  lent-place i = let ps = places (F .program) in rw (lent .left, lent .right, lent .most, List·getD-map (λ (a : Place). a .left) ps i nowhere, List·getD-map (λ (a : Place). a .right) ps i nowhere, List·getD-map (λ (a : Place). a .most) ps i nowhere)
 
 -- a byte that is no node
 check-other : (F : Formula) (ds : List Bool) (g : Grid) (ps : List Place) (at b : ℕ) (bs : List ℕ) → ¬ (b ≡ 1) → ¬ (b ≡ 2) → ¬ (b ≡ 3) → check mostVertices F ps ds g at (b ∷ bs) ≡ refused 14 at
@@ -78,24 +86,18 @@ module _ (F : Formula) (truths : List ℕ) (g : Grid) (part : List ℕ) (at base
       left-none e = rw (opened, n) (sym (check-split-none lastVertex F (map bit (take (length ps - todo) truths)) g ps (length ps - todo) nowhere (omega arith) (base + at) (drop (at + 1) part)))
 
       module _ (ks ls rs : List ℕ) (ms : List ℤ) (flags : List Bool) (lent : Lent F ks ls rs ms flags) (some : ¬ (todo ≡ 0)) (few : todo ≤ length ls) (d : ℕ) (e : d ≡ length ls - todo) (room : d < length truths) where
-        lefts : length ls ≡ length ps
-        lefts = ap length (lent .left) ∙ simp length-map
-
-        the-place : placeAt ls rs ms d ≡ getD ps d nowhere
-        the-place = rw (lent .left, lent .right, lent .most, List·getD-map (λ (a : Place). a .left) ps d nowhere, List·getD-map (λ (a : Place). a .right) ps d nowhere, List·getD-map (λ (a : Place). a .most) ps d nowhere)
-
         -- one of the two trees: with one place less, under one fact more
         below : (v o : ℕ) (bs : List ℕ) → checkLeft F (todo - 1) (set truths d v) (decide g (placeAt ls rs ms d) (bit v)) o bs ≡ check mostVertices F (drop (suc d) ps) (map bit (take d truths) ++ (bit v ∷ [])) (decide g (getD ps d nowhere) (bit v)) o bs
         unfolding checkLeft
         below v o bs =
-            let m : length ps - (todo - 1) ≡ suc d = omega (arith, lefts) in
-            rw (m, the-place, decided-more truths d v room)
+            let m : length ps - (todo - 1) ≡ suc d = omega (arith, lent-length F ks ls rs ms flags lent) in
+            rw (m, lent-place F ks ls rs ms flags lent d, decided-more truths d v room)
 
         split : Here ≡ andThen (check mostVertices F (drop (suc d) ps) (map bit (take d truths) ++ (true ∷ [])) (decide g (getD ps d nowhere) true) (suc (base + at)) (drop (at + 1) part)) (λ o r. check mostVertices F (drop (suc d) ps) (map bit (take d truths) ++ (false ∷ [])) (decide g (getD ps d nowhere) false) o r)
         unfolding checkLeft
         split =
-            let m : length ps - todo ≡ d = omega (arith, lefts) in
-            rw (opened, n, m) (check-split lastVertex F (map bit (take d truths)) g ps d nowhere (omega (arith, lefts)) (base + at) (drop (at + 1) part))
+            let m : length ps - todo ≡ d = omega (arith, lent-length F ks ls rs ms flags lent) in
+            rw (opened, n, m) (check-split lastVertex F (map bit (take d truths)) g ps d nowhere (omega (arith, lent-length F ks ls rs ms flags lent)) (base + at) (drop (at + 1) part))
 
         next : base + (at + 1) ≡ suc (base + at)
         next = omega arith
