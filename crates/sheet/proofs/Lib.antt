@@ -10,7 +10,6 @@ pub mod NearStart
 pub mod Fasts
 pub mod Steps
 pub mod FastAmong
-pub mod Puts
 pub mod Fields
 pub mod Values
 pub mod Inserted

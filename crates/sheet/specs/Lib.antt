@@ -6,7 +6,6 @@ pub mod Rows
 pub mod Sheet
 pub mod Answers
 pub mod Fast
-pub mod Room
 pub mod Demands
 pub mod Checking
 pub mod Twelve

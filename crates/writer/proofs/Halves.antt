@@ -19,18 +19,18 @@ use Rattle.formula.specs.Known.{Three, fails, passes, open?, known, knownKinds}
 use Rattle.formula.specs.Program.{Place, places}
 use Rattle.formula.specs.Cells.{bit}
 use Rattle.formula.proofs.Knows.{known-kinds}
 use Rattle.sheet.specs.Facts.{negation, taken}
 use Rattle.sheet.specs.Fast.{calmNode, strainedNode, fast, sideOf, after}
 use Rattle.sheet.specs.Grow.{Growth, shut, openAt, join}
 use Rattle.sheet.specs.Tree.{bytesOf, falseLeaf}
-use Rattle.sheet.specs.Room.{filling, putOne, puts}
-use Rattle.sheet.specs.Growing.{decisions, placeAt, Lent, Grows, Ready, cutBytes, fastAt, sideBy}
-use Rattle.sheet.specs.declared.room.Spot.{Spot}
-use Rattle.sheet.specs.declared.growing.Grown.{Grown}
+use Rattle.writer.specs.Room.{filling, putOne, puts}
+use Rattle.writer.specs.Growing.{decisions, placeAt, Lent, Grows, Ready, cutBytes, fastAt, sideBy}
+use Rattle.writer.specs.declared.room.Spot.{Spot}
+use Rattle.writer.specs.declared.growing.Grown.{Grown}
 use Rattle.question.specs.Accepted.{Every}
 use Rattle.sheet.proofs.FastAmong.{SameBelow, Ends, fast-table}
 use Rattle.sheet.proofs.Steps.{fast-split, fast-end}
-use Rattle.sheet.proofs.Growths.{grows-same, grows-first, grows-second}
+use Rattle.writer.proofs.Growths.{grows-same, grows-first, grows-second}
 
 all-of : (P : Place → Type 0) (ps : List Place) (d : ℕ → Place) → ((i : ℕ) → i < length ps → P (getD ps i (d i))) → Every P ps
 all-of P [] d f = tt

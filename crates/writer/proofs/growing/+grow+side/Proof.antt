@@ -1,6 +1,6 @@
 use mathlib.Core.Path.{refl, sym, ap, ap₂, _∙_, subst}
 use mathlib.Core.Bool.{true, false}
-use Rattle.sheet.specs.Growing.{Fact, Kept}
+use Rattle.writer.specs.Growing.{Fact, Kept}
 use denote.Ref.{now}
 use mir.Facts.{toZ-ofZ}
 use lib.IntN.{pos, negℤ, _+ℤ_, _-ℤ_}
@@ -14,31 +14,31 @@ use native.Mathlib.Numerals.{add-one}
 use lib.ListN.{length, getD}
 use Rattle.grid.proofs.Rows.{sized}
 use Rattle.formula.specs.Cells.{threeOf}
-use Rattle.sheet.proofs.Halves.{grows-false, grows-true, grows-end, branch-first, branch-second, side-cut, side-calm}
-use Rattle.sheet.proofs.Growths.{near-within, fact-bounded, fact-fits, kept-next, ready-handed}
+use Rattle.writer.proofs.Halves.{grows-false, grows-true, grows-end, branch-first, branch-second, side-cut, side-calm}
+use Rattle.writer.proofs.Growths.{near-within, fact-bounded, fact-fits, kept-next, ready-handed}
 use borrow.Author.Needs.{needs}
 use native.Mathlib.Omega.{arith}
 use Prim.Native.Nat.{ℕ, _+_, _-_, _<_}
 use borrow.Fn.Kinds.{In}
 use borrow.Fn.PlainCycle.{Measures, is, falls, and}
-use Rattle.sheet.proofs.growing.grow.Reads as grow
-use Rattle.sheet.proofs.growing.grow.Kinds as grow-kinds
-use Rattle.sheet.proofs.growing.+grow+side.Lts-grow as grow-lts
-use Rattle.sheet.proofs.growing.side.Reads as side
-use Rattle.sheet.proofs.growing.side.Kinds as side-kinds
-use Rattle.sheet.proofs.growing.+grow+side.Lts-side as side-lts
+use Rattle.writer.proofs.growing.grow.Reads as grow
+use Rattle.writer.proofs.growing.grow.Kinds as grow-kinds
+use Rattle.writer.proofs.growing.+grow+side.Lts-grow as grow-lts
+use Rattle.writer.proofs.growing.side.Reads as side
+use Rattle.writer.proofs.growing.side.Kinds as side-kinds
+use Rattle.writer.proofs.growing.+grow+side.Lts-side as side-lts
 use Rattle.grid.proofs.edge.Reads as edge-reads
 use Rattle.grid.proofs.relax.Reads as relax-reads
 use Rattle.grid.proofs.tighten.Reads as tighten-reads
 use Rattle.ints.proofs.weights.negation.Reads as negation-reads
-use Rattle.sheet.proofs.growing.cut.Reads as cut-reads
-use Rattle.sheet.proofs.growing.known_so_far.Reads as known-so-far-reads
-use Rattle.sheet.proofs.growing.open.Reads as open-reads
-use Rattle.sheet.proofs.growing.shut.Reads as shut-reads
-use Rattle.sheet.proofs.growing.with_truth.Reads as with-truth-reads
-use Rattle.sheet.proofs.room.put.Reads as put-reads
-use Rattle.sheet.proofs.growing.+grow+side.{statement}
-use Rattle.sheet.proofs.growing.+grow+side.Tie.{close}
+use Rattle.writer.proofs.growing.cut.Reads as cut-reads
+use Rattle.writer.proofs.growing.known_so_far.Reads as known-so-far-reads
+use Rattle.writer.proofs.growing.open.Reads as open-reads
+use Rattle.writer.proofs.growing.shut.Reads as shut-reads
+use Rattle.writer.proofs.growing.with_truth.Reads as with-truth-reads
+use Rattle.writer.proofs.room.put.Reads as put-reads
+use Rattle.writer.proofs.growing.+grow+side.{statement}
+use Rattle.writer.proofs.growing.+grow+side.Tie.{close}
 
 abbrev μ-grow : Measures 5 grow-kinds.ps ℕ
 μ-grow κs a = a .1 .1 .1 .1 .1 .1 .1 .0 + a .1 .1 .1 .1 .1 .1 .1 .0

@@ -1,10 +1,10 @@
 use borrow.Author.Needs.{needs}
 use denote.Ref.{now}
-use Rattle.sheet.specs.Room.{filling}
-use Rattle.sheet.proofs.Puts.{put-over, put-fits, put-full}
+use Rattle.writer.specs.Room.{filling}
+use Rattle.writer.proofs.Puts.{put-over, put-fits, put-full}
 use borrow.Author.Needs.{needs}
-use Rattle.sheet.proofs.room.put.Statement.{statement}
-use Rattle.sheet.proofs.room.put.Tie as tie
+use Rattle.writer.proofs.room.put.Statement.{statement}
+use Rattle.writer.proofs.room.put.Tie as tie
 
 returns : tie.Need-returns
 returns c = let a = c .before .args in put-over (filling (now (a .room)) (a .spot)) (a .b) (c .if1 .taken)

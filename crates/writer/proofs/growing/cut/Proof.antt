@@ -1,9 +1,9 @@
 use mathlib.Core.Path.{sym, ap, _∙_}
 use Rattle.formula.specs.Cells.{threeOf}
-use Rattle.sheet.proofs.Growths.{cut-false, cut-true, cut-open}
+use Rattle.writer.proofs.Growths.{cut-false, cut-true, cut-open}
 use borrow.Author.Needs.{needs}
-use Rattle.sheet.proofs.growing.cut.Statement.{statement}
-use Rattle.sheet.proofs.growing.cut.Tie as tie
+use Rattle.writer.proofs.growing.cut.Statement.{statement}
+use Rattle.writer.proofs.growing.cut.Tie as tie
 
 known-so-far-requires : tie.Need-known-so-far-requires
 known-so-far-requires c κs = search needs

@@ -5,9 +5,9 @@ use denote.Ref.{now}
 use mathlib.Core.Path.{_≡_}
 use mathlib.Core.List.{_++_}
 use lib.ListN.{length, take, replicate, length-set}
-use Rattle.sheet.proofs.Puts.{clear-step, clear-start, clear-end}
-use Rattle.sheet.proofs.room.clear.Statement.{statement}
-use Rattle.sheet.proofs.room.clear.Tie as tie
+use Rattle.writer.proofs.Puts.{clear-step, clear-start, clear-end}
+use Rattle.writer.proofs.room.clear.Statement.{statement}
+use Rattle.writer.proofs.room.clear.Tie as tie
 
 abbrev Inv-loop : tie.InvT-loop
 Inv-loop room₀ from i₀ room i = (from ≤ i) × (i ≤ length room) × (length room ≡ length room₀) × (take i room ≡ take from room₀ ++ replicate (i - from) 0)

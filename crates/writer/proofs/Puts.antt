@@ -10,7 +10,7 @@ use lib.Dec.{ltb}
 use lib.ListN.{length, getD, take, drop, set, replicate, length-set, drop-of-length-le}
 use lib.Seq.{drop-cons, take-suc-set, append-snoc, take-all}
 use borrow.Author.Tests.{lt-ltb, le-ltb}
-use Rattle.sheet.specs.Room.{Filling, stored, putOne, puts}
+use Rattle.writer.specs.Room.{Filling, stored, putOne, puts}
 
 pub puts-append : (f : Filling) (bs cs : List ℕ) → puts f (bs ++ cs) ≡ puts (puts f bs) cs
 unfolding puts

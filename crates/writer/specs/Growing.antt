@@ -12,13 +12,13 @@ use Rattle.grid.specs.Near.{Closure}
 use Rattle.formula.specs.Program.{Program, Place, kindsOf, places}
 use Rattle.formula.specs.Cells.{bit}
 use Rattle.formula.specs.Formulas.{Formula}
 use Rattle.sheet.specs.Facts.{taken}
 use Rattle.sheet.specs.Fast.{after, half, fast}
 use Rattle.sheet.specs.Tree.{bytesOf}
 use Rattle.sheet.specs.Grow.{Growth, shut, openAt}
-use Rattle.sheet.specs.Room.{filling, puts}
-use Rattle.sheet.specs.declared.room.Spot.{Spot}
-use Rattle.sheet.specs.declared.growing.Grown.{Grown}
+use Rattle.writer.specs.Room.{filling, puts}
+use Rattle.writer.specs.declared.room.Spot.{Spot}
+use Rattle.writer.specs.declared.growing.Grown.{Grown}
 
 -- the decisions made so far, from their bytes
 abbrev pub decisions : List ℕ → ℕ → List Bool

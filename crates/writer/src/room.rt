@@ -4,7 +4,7 @@ ghost use Prim.Native.Nat.{_≤_, _-_};
 ghost use mathlib.Core.Path.{_≡_};
 ghost use mathlib.Core.List.{_++_};
 ghost use lib.ListN.{length, take, replicate};
-ghost use Rattle.sheet.specs.Room.{filling, putOne, puts};
+ghost use Rattle.writer.specs.Room.{filling, putOne, puts};
 
 // Where the next byte goes, and whether a byte before it found no room.
 pub struct Spot {

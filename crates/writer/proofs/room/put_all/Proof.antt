@@ -3,10 +3,10 @@ use Prim.Native.Nat.{_+_, _-_, _≤_}
 use denote.Ref.{now}
 use mathlib.Core.Path.{_≡_, sym, ap, _∙_}
 use lib.ListN.{length, drop}
-use Rattle.sheet.specs.Room.{filling, puts}
-use Rattle.sheet.proofs.Puts.{puts-next, puts-end}
-use Rattle.sheet.proofs.room.put_all.Statement.{statement}
-use Rattle.sheet.proofs.room.put_all.Tie as tie
+use Rattle.writer.specs.Room.{filling, puts}
+use Rattle.writer.proofs.Puts.{puts-next, puts-end}
+use Rattle.writer.proofs.room.put_all.Statement.{statement}
+use Rattle.writer.proofs.room.put_all.Tie as tie
 
 abbrev Inv-loop : tie.InvT-loop
 Inv-loop room₀ bytes next₀ i₀ room next i = (i ≤ length bytes) × (length room ≡ length room₀) × (puts (filling room next) (drop i bytes) ≡ puts (filling room₀ next₀) bytes)

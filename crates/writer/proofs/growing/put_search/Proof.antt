@@ -2,15 +2,15 @@ use mathlib.Core.Path.{_≡_}
 use denote.Ref.{now}
 use Rattle.grid.specs.Grid.{weight}
 use Rattle.grid.specs.Search as S
-use Rattle.sheet.specs.Room.{filling, puts}
+use Rattle.writer.specs.Room.{filling, puts}
 use Rattle.sheet.specs.Tree.{bytesOf, cycle}
 use native.Mathlib.Omega.{arith}
 use mathlib.Core.Path.{ap, _∙_}
 use Prim.Native.Nat.{_+_, _-_}
-use Rattle.sheet.proofs.Growths.{kept-within, found-list}
+use Rattle.writer.proofs.Growths.{kept-within, found-list}
 use borrow.Author.Needs.{needs}
-use Rattle.sheet.proofs.growing.put_search.Statement.{statement}
-use Rattle.sheet.proofs.growing.put_search.Tie as tie
+use Rattle.writer.proofs.growing.put_search.Statement.{statement}
+use Rattle.writer.proofs.growing.put_search.Tie as tie
 
 add-search : tie.Need-add-search
 add-search c = search needs

@@ -21,15 +21,15 @@ use Rattle.grid.proofs.Grids.{tighten-keeps, tighten-le}
 use Rattle.grid.proofs.Nears.{relax-closure, tightened, tabled-closure, near-small}
 use Rattle.formula.specs.Formulas.{Formula}
 use Rattle.formula.specs.Known.{Three, fails, passes, open?}
 use Rattle.sheet.specs.Fast.{strainedNode, cycleOf}
 use Rattle.sheet.specs.Tree.{bytesOf, cycle}
 use Rattle.sheet.specs.Grow.{Growth, shut, openAt, join}
-use Rattle.sheet.specs.Room.{Filling, filling, putOne, puts}
-use Rattle.sheet.specs.Growing.{Grows, Fact, Kept, Ready, cutBytes}
-use Rattle.sheet.specs.declared.room.Spot.{Spot}
-use Rattle.sheet.specs.declared.growing.Grown.{Grown}
+use Rattle.writer.specs.Room.{Filling, filling, putOne, puts}
+use Rattle.writer.specs.Growing.{Grows, Fact, Kept, Ready, cutBytes}
+use Rattle.writer.specs.declared.room.Spot.{Spot}
+use Rattle.writer.specs.declared.growing.Grown.{Grown}
 use Rattle.sheet.proofs.Fasts.{Same}
-use Rattle.sheet.proofs.Puts.{puts-append, puts-length}
+use Rattle.writer.proofs.Puts.{puts-append, puts-length}
 
 -- ---- what is left by growths
 

@@ -2,11 +2,11 @@ use mathlib.Core.Path.{_≡_, sym, ap, ap₂, _∙_}
 use native.Mathlib.Omega.{arith}
 use lib.ListN.{length, take}
 use lib.Seq.{length-take-le}
-use Rattle.sheet.specs.Room.{putOne, puts}
+use Rattle.writer.specs.Room.{putOne, puts}
 use Rattle.sheet.specs.Tree.{bytesOf}
 use borrow.Author.Needs.{needs}
-use Rattle.sheet.proofs.growing.put_cycle.Statement.{statement}
-use Rattle.sheet.proofs.growing.put_cycle.Tie as tie
+use Rattle.writer.proofs.growing.put_cycle.Statement.{statement}
+use Rattle.writer.proofs.growing.put_cycle.Tie as tie
 
 put-requires : tie.Need-put-requires
 put-requires c κs = search needs

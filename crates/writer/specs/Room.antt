@@ -4,7 +4,7 @@ use mathlib.Core.Bool.{Bool, true, false, cond}
 use mathlib.Core.List.{List, [], _∷_}
 use lib.ListN.{length, set}
 use lib.Dec.{ltb}
-use Rattle.sheet.specs.declared.room.Spot.{Spot}
+use Rattle.writer.specs.declared.room.Spot.{Spot}
 
 -- a room's bytes; where the next byte goes; whether a byte found no room
 pub record Filling : Type 0 where

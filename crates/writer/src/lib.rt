@@ -1,0 +1,3 @@
+// The writer of sheets. Its definitions are those of crate sheet.
+mod growing;
+mod room;
