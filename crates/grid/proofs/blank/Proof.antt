@@ -5,7 +5,6 @@ use Rattle.grid.proofs.blank.Tie as tie
 use Rattle.grid.proofs.blank.Reads as reads
 use Rattle.grid.proofs.blank.Lts as lts
 
--- src/lib.rt:9:1
 returns : tie.Need-returns
 unfolding blank
 returns c = refl

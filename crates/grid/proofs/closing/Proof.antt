@@ -23,7 +23,6 @@ Inv-loop vertices g n first at₀ sum₀ i₀ at sum i = (1 ≤ i) × (i ≤ n) 
 abbrev μ-loop : tie.MeasureT-loop
 μ-loop vertices g n first at₀ sum₀ i₀ at sum i = n - i
 
--- src/lib.rt:95:17
 shared-slice-read-first : tie.Need-shared-slice-read-first Inv-loop μ-loop
 shared-slice-read-first c = search needs
 
@@ -34,37 +33,29 @@ first-below c = below-at mostVertices (c .before .args .vertices .now) 0 (c .bef
 next-below : (c : tie.After-shared-slice-known2 Inv-loop μ-loop) → getD (c .before .before .before .before .args .vertices .now) (c .before .before .loop .i) 0 < mostVertices
 next-below c = let s = c .before .before .before .before in below-at mostVertices (s .args .vertices .now) (c .before .before .loop .i) (s .pre .0 .2) (c .before .loop-test .taken)
 
--- src/lib.rt:95:17
 cast-first : tie.Need-cast-first Inv-loop μ-loop
 cast-first c = omega (arith, first-below c)
 
--- src/lib.rt:98:5
 loop-holds : tie.Need-loop-holds Inv-loop μ-loop
 loop-holds c =
     let s = c .before in
     (search needs, s .pre .0 .0, part-first mostVertices (s .args .t1) (s .args .vertices .now) (s .pre .0 .2) (s .pre .1) (s .pre .0 .0))
 
--- src/lib.rt:99:20
 shared-slice-read-next : tie.Need-shared-slice-read-next Inv-loop μ-loop
 shared-slice-read-next c = search needs
 
--- src/lib.rt:99:20
 cast-next : tie.Need-cast-next Inv-loop μ-loop
 cast-next c = omega (arith, next-below c)
 
--- src/lib.rt:100:21
 mul-sum : tie.Need-mul-sum Inv-loop μ-loop
 mul-sum c = search needs
 
--- src/lib.rt:100:21
 mul-sum-2 : tie.Need-mul-sum-2 Inv-loop μ-loop
 mul-sum-2 c = omega (arith, next-below c)
 
--- src/lib.rt:100:21
 index-1-sum : tie.Need-index-1-sum Inv-loop μ-loop
 index-1-sum c = search needs
 
--- src/lib.rt:100:21
 index-2-sum : tie.Need-index-2-sum Inv-loop μ-loop
 index-2-sum c = omega (arith, next-below c)
 
@@ -90,19 +81,15 @@ exact c =
     let s = c .before .before .before .before .before in
     part-exact mostVertices (s .args .t1) (s .args .vertices .now) (s .pre .0 .2) (s .pre .1) (l .i) (l .at) _ _ (l .inv .2) (omega (arith, s .pre .0, c .before .before .loop-test .taken)) (next-below (c .before))
 
--- src/lib.rt:100:15
 add-sum : tie.Need-add-sum Inv-loop μ-loop
 add-sum c = rw (added c) (exact c)
 
--- src/lib.rt:98:9
 add-i : tie.Need-add-i Inv-loop μ-loop
 add-i c = search needs
 
--- src/lib.rt:98:5
 loop-less : tie.Need-loop-less Inv-loop μ-loop
 loop-less c = search needs
 
--- src/lib.rt:98:5
 loop-again : tie.Need-loop-again Inv-loop μ-loop
 loop-again c =
     let l = c .before .before .before .loop in
@@ -112,19 +99,15 @@ loop-again c =
       rw (added c, toZ-ofZ (exact c)) (part-next mostVertices (s .args .t1) (s .args .vertices .now) (s .pre .0 .2) (s .pre .1) (l .i) (l .at) (toZ w64 (l .sum)) (l .inv .2) (c .before .before .loop-test .taken)),
     )
 
--- src/lib.rt:103:11
 mul-result : tie.Need-mul-result Inv-loop μ-loop
 mul-result c = search needs
 
--- src/lib.rt:103:11
 mul-result-2 : tie.Need-mul-result-2 Inv-loop μ-loop
 mul-result-2 c = omega (arith, first-below (c .before .before))
 
--- src/lib.rt:103:11
 index-1-result : tie.Need-index-1-result Inv-loop μ-loop
 index-1-result c = search needs
 
--- src/lib.rt:103:11
 index-2-result : tie.Need-index-2-result Inv-loop μ-loop
 index-2-result c = omega (arith, first-below (c .before .before))
 
@@ -150,11 +133,9 @@ exact-last c =
     let s = c .before .before .before .before in
     part-exact mostVertices (s .args .t1) (s .args .vertices .now) (s .pre .0 .2) (s .pre .1) (l .i) (l .at) _ _ (l .inv .2) (omega (arith, s .pre .0)) (first-below (c .before .before .before))
 
--- src/lib.rt:103:5
 add-result : tie.Need-add-result Inv-loop μ-loop
 add-result c = rw (last c) (exact-last c)
 
--- src/lib.rt:89:1
 returns : tie.Need-returns Inv-loop μ-loop
 returns c =
     let l = c .before .before .loop in

@@ -17,52 +17,40 @@ Inv-loop n s g h₀ v₀ h v = (v ≤ n) × (h ≡ filled (λ v. weight g v s) v
 abbrev μ-loop : tie.MeasureT-loop
 μ-loop n s g h₀ v₀ h v = n - v
 
--- src/lib.rt:113:17
 mul-h : tie.Need-mul-h Inv-loop μ-loop
 mul-h c = search needs
 
--- src/lib.rt:113:17
 array-copy-out-h : tie.Need-array-copy-out-h Inv-loop μ-loop
 array-copy-out-h c = search needs
 
--- src/lib.rt:114:5
 loop-holds : tie.Need-loop-holds Inv-loop μ-loop
 unfolding filled
 loop-holds c = (search needs, refl)
 
--- src/lib.rt:115:16
 mul-h-2 : tie.Need-mul-h-2 Inv-loop μ-loop
 mul-h-2 c = search needs
 
--- src/lib.rt:115:16
 mul-h-3 : tie.Need-mul-h-3 Inv-loop μ-loop
 mul-h-3 c = search needs
 
--- src/lib.rt:115:16
 index-1-h : tie.Need-index-1-h Inv-loop μ-loop
 index-1-h c = search needs
 
--- src/lib.rt:115:16
 index-2-h : tie.Need-index-2-h Inv-loop μ-loop
 index-2-h c = search needs
 
--- src/lib.rt:115:9
 mul-h-4 : tie.Need-mul-h-4 Inv-loop μ-loop
 mul-h-4 c = search needs
 
--- src/lib.rt:115:9
 array-set-from-h : tie.Need-array-set-from-h Inv-loop μ-loop
 array-set-from-h c = search needs
 
--- src/lib.rt:114:9
 add-v : tie.Need-add-v Inv-loop μ-loop
 add-v c = search needs
 
--- src/lib.rt:114:5
 loop-less : tie.Need-loop-less Inv-loop μ-loop
 loop-less c = search needs
 
--- src/lib.rt:114:5
 loop-again : tie.Need-loop-again Inv-loop μ-loop
 loop-again c =
     let l = c .before .before .loop in
@@ -72,7 +60,6 @@ loop-again c =
           (toZ-ofZ (record { sfits = c .h2 .given }) ∙ read mostVertices (s .args .t1) (l .v) (s .args .s) (sized mostVertices (s .args .t1) _ (s .good .0)) (omega (arith, s .pre, c .before .loop-test .taken)) (omega (arith, s .pre))),
     )
 
--- src/lib.rt:109:1
 returns : tie.Need-returns Inv-loop μ-loop
 returns c =
     let all : c .before .loop .v ≡ c .before .before .before .args .n = omega arith in

@@ -8,23 +8,18 @@ use Rattle.grid.proofs.edge.Tie as tie
 use Rattle.grid.proofs.edge.Reads as reads
 use Rattle.grid.proofs.edge.Lts as lts
 
--- src/lib.rt:23:5
 mul-result : tie.Need-mul-result
 mul-result c = search needs
 
--- src/lib.rt:23:5
 mul-result-2 : tie.Need-mul-result-2
 mul-result-2 c = search needs
 
--- src/lib.rt:23:5
 index-1-result : tie.Need-index-1-result
 index-1-result c = search needs
 
--- src/lib.rt:23:5
 index-2-result : tie.Need-index-2-result
 index-2-result c = search needs
 
--- src/lib.rt:19:1
 returns : tie.Need-returns
 returns c =
     let a = c .before .args in

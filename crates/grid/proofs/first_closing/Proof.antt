@@ -29,15 +29,12 @@ Inv-loop n sum edges on u₀ u = (u ≤ n) × ((i : ℕ) → i < u → closes ed
 abbrev μ-loop : tie.MeasureT-loop
 μ-loop n sum edges on u₀ u = n - u
 
--- src/lib.rt:187:5
 loop-holds : tie.Need-loop-holds Inv-loop μ-loop
 loop-holds c = (search needs, λ i h. absurd (omega arith))
 
--- src/lib.rt:188:18
 mul-if1 : tie.Need-mul-if1 Inv-loop μ-loop
 mul-if1 c = search needs
 
--- src/lib.rt:188:18
 array-copy-out-if1 : tie.Need-array-copy-out-if1 Inv-loop μ-loop
 array-copy-out-if1 c = search needs
 
@@ -57,23 +54,18 @@ three-fits c =
     let h = c .before .before .loop-test .taken in
     exact-three (s .args .sum) _ _ (s .pre .1 .0) (s .pre .1 .1 .0 .entry (c .before .before .before .loop .u) h) (s .pre .1 .1 .1 .entry (c .before .before .before .loop .u) h)
 
--- src/lib.rt:188:12
 add-if1 : tie.Need-add-if1 Inv-loop μ-loop
 add-if1 c = simp (toZ-ofZ, c .before .before .before .fits .sum, edge-fits c) (two-fits c)
 
--- src/lib.rt:188:29
 mul-if1-2 : tie.Need-mul-if1-2 Inv-loop μ-loop
 mul-if1-2 c = search needs
 
--- src/lib.rt:188:29
 array-copy-out-if1-2 : tie.Need-array-copy-out-if1-2 Inv-loop μ-loop
 array-copy-out-if1-2 c = search needs
 
--- src/lib.rt:188:12
 add-if1-2 : tie.Need-add-if1-2 Inv-loop μ-loop
 add-if1-2 c = simp (toZ-ofZ, c .before .before .before .before .fits .sum, edge-fits (c .before), on-fits c, two-fits (c .before)) (three-fits c)
 
--- src/lib.rt:189:13
 returns : tie.Need-returns Inv-loop μ-loop
 returns c =
     let l = c .before .before .before .before .loop in
@@ -81,15 +73,12 @@ returns c =
     let t : closes (s .args .t1) (s .args .t2) (s .args .sum) (l .u) ≡ true = simp (toZ-ofZ, s .fits .sum, edge-fits (c .before .before), on-fits (c .before), two-fits (c .before .before), three-fits (c .before)) at (c .if1 .taken) in
     first-at _ (s .args .n) (l .u) (l .inv .0) (simp (toZ-ofZ, s .fits .sum) at (l .inv .1)) (λ h. t)
 
--- src/lib.rt:187:9
 add-u : tie.Need-add-u Inv-loop μ-loop
 add-u c = search needs
 
--- src/lib.rt:187:5
 loop-less : tie.Need-loop-less Inv-loop μ-loop
 loop-less c = search needs
 
--- src/lib.rt:187:5
 loop-again : tie.Need-loop-again Inv-loop μ-loop
 loop-again c =
     let l = c .before .before .before .before .loop in
@@ -99,7 +88,6 @@ loop-again c =
       below-more (λ (i : ℕ). closes (s .args .t1) (s .args .t2) (toZ w64 (ofZ w64 (s .args .sum))) i ≡ false) (l .u) (l .inv .1) (simp (toZ-ofZ, s .fits .sum) t),
     )
 
--- src/lib.rt:180:1
 returns-2 : tie.Need-returns-2 Inv-loop μ-loop
 returns-2 c =
     let s = c .before .before in

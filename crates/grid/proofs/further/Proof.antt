@@ -20,43 +20,34 @@ Inv-loop g n sums h₀ s₀ h s = (s ≤ n) × (h ≡ filled (λ s. filled (λ v
 abbrev μ-loop : tie.MeasureT-loop
 μ-loop g n sums h₀ s₀ h s = n - s
 
--- src/lib.rt:171:5
 loop-holds : tie.Need-loop-holds Inv-loop μ-loop
 unfolding filled
 loop-holds c = (search needs, refl)
 
--- src/lib.rt:172:18
 mul-on : tie.Need-mul-on Inv-loop μ-loop
 mul-on c = search needs
 
--- src/lib.rt:172:18
 array-copy-out-on : tie.Need-array-copy-out-on Inv-loop μ-loop
 array-copy-out-on c = search needs
 
--- src/lib.rt:173:13
 longer-requires : tie.Need-longer-requires Inv-loop μ-loop
 longer-requires c κs =
     let l = c .before .before .loop in
     let z = c .before .before .before in
     (z .pre .0, (z .pre .1 .0, row-within wide (z .args .n) (z .args .t2) (sized mostVertices (z .args .t2) _ (z .good .1 .0)) (z .pre .0 .1) (z .pre .1 .1) (omega arith) (l .s) (c .before .loop-test .taken)))
 
--- src/lib.rt:174:9
 mul-h : tie.Need-mul-h Inv-loop μ-loop
 mul-h c = search needs
 
--- src/lib.rt:174:9
 array-set-from-h : tie.Need-array-set-from-h Inv-loop μ-loop
 array-set-from-h c = search needs
 
--- src/lib.rt:171:9
 add-s : tie.Need-add-s Inv-loop μ-loop
 add-s c = search needs
 
--- src/lib.rt:171:5
 loop-less : tie.Need-loop-less Inv-loop μ-loop
 loop-less c = search needs
 
--- src/lib.rt:171:5
 loop-again : tie.Need-loop-again Inv-loop μ-loop
 loop-again c =
     let l = c .before .before .before .loop in
@@ -67,7 +58,6 @@ loop-again c =
           (c .longer .ensures ∙ filled-same _ _ (z .args .n) (row (z .args .t2) (l .s)) (λ v h. least-onward (z .args .n) (z .args .t2) (weight (z .args .g)) (sized mostVertices (z .args .t2) _ (z .good .1 .0)) (z .pre .0) (l .s) v s)),
     )
 
--- src/lib.rt:164:1
 returns : tie.Need-returns Inv-loop μ-loop
 unfolding tabled
 returns c =

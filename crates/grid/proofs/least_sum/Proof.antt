@@ -29,11 +29,9 @@ Inv-loop n edges on sum₀ u₀ sum u = (0 < u) × (u ≤ n) × (toZ w64 sum ≡
 abbrev μ-loop : tie.MeasureT-loop
 μ-loop n edges on sum₀ u₀ sum u = n - u
 
--- src/lib.rt:139:19
 array-copy-out-sum : tie.Need-array-copy-out-sum Inv-loop μ-loop
 array-copy-out-sum c = search needs
 
--- src/lib.rt:139:30
 array-copy-out-sum-2 : tie.Need-array-copy-out-sum-2 Inv-loop μ-loop
 array-copy-out-sum-2 c = search needs
 
@@ -59,48 +57,37 @@ other-fits c =
     let h = c .before .before .loop-test .taken in
     exact-two _ _ (s .pre .1 .0 .entry (c .before .before .before .loop .u) h) (s .pre .1 .1 .entry (c .before .before .before .loop .u) h)
 
--- src/lib.rt:139:19
 add-sum : tie.Need-add-sum Inv-loop μ-loop
 add-sum c = simp (toZ-ofZ, first-edge c, first-on c) (first-fits c)
 
--- src/lib.rt:140:5
 loop-holds : tie.Need-loop-holds Inv-loop μ-loop
 unfolding least
 loop-holds c = (search needs, c .before .before .pre .0 .0, simp (toZ-ofZ, first-edge c, first-on c, first-fits c))
 
--- src/lib.rt:141:21
 mul-other : tie.Need-mul-other Inv-loop μ-loop
 mul-other c = search needs
 
--- src/lib.rt:141:21
 array-copy-out-other : tie.Need-array-copy-out-other Inv-loop μ-loop
 array-copy-out-other c = search needs
 
--- src/lib.rt:141:32
 mul-other-2 : tie.Need-mul-other-2 Inv-loop μ-loop
 mul-other-2 c = search needs
 
--- src/lib.rt:141:32
 array-copy-out-other-2 : tie.Need-array-copy-out-other-2 Inv-loop μ-loop
 array-copy-out-other-2 c = search needs
 
--- src/lib.rt:141:21
 add-other : tie.Need-add-other Inv-loop μ-loop
 add-other c = simp (toZ-ofZ, other-edge c, other-on c) (other-fits c)
 
--- src/lib.rt:142:9
 lesser-requires : tie.Need-lesser-requires Inv-loop μ-loop
 lesser-requires c κs = search needs
 
--- src/lib.rt:140:9
 add-u : tie.Need-add-u Inv-loop μ-loop
 add-u c = search needs
 
--- src/lib.rt:140:5
 loop-less : tie.Need-loop-less Inv-loop μ-loop
 loop-less c = search needs
 
--- src/lib.rt:140:5
 loop-again : tie.Need-loop-again Inv-loop μ-loop
 loop-again c =
     let o = c .before in
@@ -112,7 +99,6 @@ loop-again c =
       toZ-ofZ (record { sfits = c .lesser .ok }) ∙ new ∙ ap (λ (z : ℤ). minZ z (onward (s .args .t1) (s .args .t2) (l .u))) (l .inv .2) ∙ sym (least-more (onward (s .args .t1) (s .args .t2)) (l .u) (l .inv .0)),
     )
 
--- src/lib.rt:133:1
 returns : tie.Need-returns Inv-loop μ-loop
 returns c =
     let s = c .before .before .before .before in

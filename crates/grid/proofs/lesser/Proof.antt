@@ -14,12 +14,10 @@ taken c = simp (toZ-ofZ, c .before .fits .a, c .before .fits .b) at (c .if1 .tak
 left : (c : tie.Else1) → ltZ (c .before .args .b) (c .before .args .a) ≡ false
 left c = simp (toZ-ofZ, c .before .fits .a, c .before .fits .b) at (c .if1 .left)
 
--- src/lib.rt:26:1
 returns : tie.Need-returns
 unfolding minZ
 returns c = simp (toZ-ofZ, c .before .fits .b, taken c)
 
--- src/lib.rt:26:1
 returns-2 : tie.Need-returns-2
 unfolding minZ
 returns-2 c = simp (toZ-ofZ, c .before .fits .a, left c)

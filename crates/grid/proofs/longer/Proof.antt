@@ -22,43 +22,34 @@ Inv-loop on n g h₀ v₀ h v = (v ≤ n) × (h ≡ filled (λ v. least (λ u. w
 abbrev μ-loop : tie.MeasureT-loop
 μ-loop on n g h₀ v₀ h v = n - v
 
--- src/lib.rt:155:5
 loop-holds : tie.Need-loop-holds Inv-loop μ-loop
 unfolding filled
 loop-holds c = (search needs, refl)
 
--- src/lib.rt:156:21
 mul-edges : tie.Need-mul-edges Inv-loop μ-loop
 mul-edges c = search needs
 
--- src/lib.rt:156:21
 array-copy-out-edges : tie.Need-array-copy-out-edges Inv-loop μ-loop
 array-copy-out-edges c = search needs
 
--- src/lib.rt:157:13
 least-sum-requires : tie.Need-least-sum-requires Inv-loop μ-loop
 least-sum-requires c κs =
     let l = c .before .before .loop in
     let s = c .before .before .before in
     (s .pre .0, (row-within farN (s .args .n) (s .args .t1) (sized mostVertices (s .args .t1) _ (s .good .0)) (s .pre .0 .1) (s .pre .1 .0) (omega arith) (l .v) (c .before .loop-test .taken), s .pre .1 .1))
 
--- src/lib.rt:158:9
 mul-h : tie.Need-mul-h Inv-loop μ-loop
 mul-h c = search needs
 
--- src/lib.rt:158:9
 array-set-from-h : tie.Need-array-set-from-h Inv-loop μ-loop
 array-set-from-h c = search needs
 
--- src/lib.rt:155:9
 add-v : tie.Need-add-v Inv-loop μ-loop
 add-v c = search needs
 
--- src/lib.rt:155:5
 loop-less : tie.Need-loop-less Inv-loop μ-loop
 loop-less c = search needs
 
--- src/lib.rt:155:5
 loop-again : tie.Need-loop-again Inv-loop μ-loop
 loop-again c =
     let l = c .before .before .before .loop in
@@ -69,7 +60,6 @@ loop-again c =
           (toZ-ofZ (record { sfits = c .least-sum .ok }) ∙ c .least-sum .ensures ∙ least-edges (s .args .n) (s .args .t1) (λ u. getD (s .args .on) u (pos 0)) (sized mostVertices (s .args .t1) _ (s .good .0)) (s .pre .0) (l .v) v),
     )
 
--- src/lib.rt:148:1
 returns : tie.Need-returns Inv-loop μ-loop
 returns c =
     let all : c .before .loop .v ≡ c .before .before .args .n = omega arith in

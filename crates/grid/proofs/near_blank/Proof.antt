@@ -24,36 +24,28 @@ Inv-loop h₀ u₀ h u = (u ≤ mostVertices) × (h ≡ filled diagonal u (blank
 abbrev μ-loop : tie.MeasureT-loop
 μ-loop h₀ u₀ h u = mostVertices - u
 
--- src/lib.rt:48:5
 loop-holds : tie.Need-loop-holds Inv-loop μ-loop
 unfolding filled blank
 loop-holds c = (search needs, refl)
 
--- src/lib.rt:49:9
 mul-h : tie.Need-mul-h Inv-loop μ-loop
 mul-h c = search needs
 
--- src/lib.rt:49:9
 mul-h-2 : tie.Need-mul-h-2 Inv-loop μ-loop
 mul-h-2 c = search needs
 
--- src/lib.rt:49:9
 index-1-h : tie.Need-index-1-h Inv-loop μ-loop
 index-1-h c = search needs
 
--- src/lib.rt:49:9
 index-2-h : tie.Need-index-2-h Inv-loop μ-loop
 index-2-h c = search needs
 
--- src/lib.rt:48:9
 add-u : tie.Need-add-u Inv-loop μ-loop
 add-u c = search needs
 
--- src/lib.rt:48:5
 loop-less : tie.Need-loop-less Inv-loop μ-loop
 loop-less c = search needs
 
--- src/lib.rt:48:5
 loop-again : tie.Need-loop-again Inv-loop μ-loop
 unfolding blank diagonal
 loop-again c =
@@ -64,7 +56,6 @@ loop-again c =
     ∙ getD-replicate mostVertices (l .u) (replicate mostVertices far) [] (omega arith) in
     (search needs, filled-more diagonal (l .u) (blank mostVertices) (l .h) _ (l .inv .1) (ap (λ (m : List ℤ). set m (l .u) (pos 0)) old))
 
--- src/lib.rt:44:1
 returns : tie.Need-returns Inv-loop μ-loop
 unfolding filled tabled blank nearBlank diagonal
 returns c =

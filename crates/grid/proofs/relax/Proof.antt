@@ -24,32 +24,25 @@ Inv-loop n b a k near h₀ on u₀ h u = (u ≤ n) × (h ≡ filled (newRow near
 abbrev μ-loop : tie.MeasureT-loop
 μ-loop n b a k near h₀ on u₀ h u = n - u
 
--- src/lib.rt:77:14
 mul-on : tie.Need-mul-on Inv-loop μ-loop
 mul-on c = search needs
 
--- src/lib.rt:77:14
 array-copy-out-on : tie.Need-array-copy-out-on Inv-loop μ-loop
 array-copy-out-on c = search needs
 
--- src/lib.rt:78:5
 loop-holds : tie.Need-loop-holds Inv-loop μ-loop
 unfolding filled
 loop-holds c = (search needs, refl)
 
--- src/lib.rt:79:19
 mul-row : tie.Need-mul-row Inv-loop μ-loop
 mul-row c = search needs
 
--- src/lib.rt:79:19
 array-copy-out-row : tie.Need-array-copy-out-row Inv-loop μ-loop
 array-copy-out-row c = search needs
 
--- src/lib.rt:80:21
 mul-reach : tie.Need-mul-reach Inv-loop μ-loop
 mul-reach c = search needs
 
--- src/lib.rt:80:21
 array-copy-out-reach : tie.Need-array-copy-out-reach Inv-loop μ-loop
 array-copy-out-reach c = search needs
 
@@ -62,11 +55,9 @@ bounded c =
     let s = c .before .before .before .before .before in
     reach-bounded (s .args .t1) (s .args .n) (s .args .b) (s .args .a) (s .args .k) (sized mostVertices (s .args .t1) _ (s .good .0)) (s .pre .0) (s .pre .1 .0) (s .pre .1 .1) _ (c .before .before .loop-test .taken)
 
--- src/lib.rt:80:21
 add-reach : tie.Need-add-reach Inv-loop μ-loop
 add-reach c = simp (toZ-ofZ, c .before .before .before .before .before .fits .k, edge-fits c) (exact-wide _ (bounded c))
 
--- src/lib.rt:81:13
 relax-row-requires : tie.Need-relax-row-requires Inv-loop μ-loop
 relax-row-requires c κs =
     let s = c .before .before .before .before .before in (
@@ -77,23 +68,18 @@ relax-row-requires c κs =
       ),
     )
 
--- src/lib.rt:82:9
 mul-h : tie.Need-mul-h Inv-loop μ-loop
 mul-h c = search needs
 
--- src/lib.rt:82:9
 array-set-from-h : tie.Need-array-set-from-h Inv-loop μ-loop
 array-set-from-h c = search needs
 
--- src/lib.rt:78:9
 add-u : tie.Need-add-u Inv-loop μ-loop
 add-u c = search needs
 
--- src/lib.rt:78:5
 loop-less : tie.Need-loop-less Inv-loop μ-loop
 loop-less c = search needs
 
--- src/lib.rt:78:5
 loop-again : tie.Need-loop-again Inv-loop μ-loop
 loop-again c =
     let r = c .before in
@@ -107,7 +93,6 @@ loop-again c =
       filled-more _ (l .u) near (l .h) _ (l .inv .1) (new ∙ ap (λ (z : ℤ). newRow near (s .args .n) (s .args .b) (s .args .a) z (l .u)) (sym (toZ-ofZ (s .fits .k)))),
     )
 
--- src/lib.rt:70:1
 returns : tie.Need-returns Inv-loop μ-loop
 unfolding tabled
 returns c =

@@ -28,16 +28,13 @@ Inv-loop n reach row on h₀ v₀ h v = (v ≤ n) × (h ≡ filled (better row o
 abbrev μ-loop : tie.MeasureT-loop
 μ-loop n reach row on h₀ v₀ h v = n - v
 
--- src/lib.rt:62:5
 loop-holds : tie.Need-loop-holds Inv-loop μ-loop
 unfolding filled
 loop-holds c = (search needs, refl)
 
--- src/lib.rt:63:29
 mul-round : tie.Need-mul-round Inv-loop μ-loop
 mul-round c = search needs
 
--- src/lib.rt:63:29
 array-copy-out-round : tie.Need-array-copy-out-round Inv-loop μ-loop
 array-copy-out-round c = search needs
 
@@ -48,39 +45,30 @@ on-fits c = record { sfits = c .round .given }
 round-fits : (c : tie.After-round Inv-loop μ-loop) → SFits w64 (c .before .before .before .args .reach +ℤ getD (c .before .before .before .args .t2) (c .before .before .loop .v) (pos 0))
 round-fits c = let s = c .before .before .before in exact-two (s .args .reach) _ (s .pre .1 .0) (s .pre .1 .1 .entry (c .before .before .loop .v) (c .before .loop-test .taken))
 
--- src/lib.rt:63:21
 add-round : tie.Need-add-round Inv-loop μ-loop
 add-round c = simp (toZ-ofZ, c .before .before .before .fits .reach, on-fits c) (round-fits c)
 
--- src/lib.rt:64:23
 mul-lesser : tie.Need-mul-lesser Inv-loop μ-loop
 mul-lesser c = search needs
 
--- src/lib.rt:64:23
 array-copy-out-lesser : tie.Need-array-copy-out-lesser Inv-loop μ-loop
 array-copy-out-lesser c = search needs
 
--- src/lib.rt:64:16
 lesser-requires : tie.Need-lesser-requires Inv-loop μ-loop
 lesser-requires c κs = search needs
 
--- src/lib.rt:64:9
 mul-h : tie.Need-mul-h Inv-loop μ-loop
 mul-h c = search needs
 
--- src/lib.rt:64:9
 array-set-from-h : tie.Need-array-set-from-h Inv-loop μ-loop
 array-set-from-h c = search needs
 
--- src/lib.rt:62:9
 add-v : tie.Need-add-v Inv-loop μ-loop
 add-v c = search needs
 
--- src/lib.rt:62:5
 loop-less : tie.Need-loop-less Inv-loop μ-loop
 loop-less c = search needs
 
--- src/lib.rt:62:5
 loop-again : tie.Need-loop-again Inv-loop μ-loop
 loop-again c =
     let r = c .before .before in
@@ -92,7 +80,6 @@ loop-again c =
       filled-more _ (l .v) (s .args .t1) (l .h) _ (l .inv .1) (toZ-ofZ (record { sfits = c .lesser .ok }) ∙ new ∙ ap (λ (z : ℤ). better (s .args .t1) (s .args .t2) z (l .v)) (sym (toZ-ofZ (s .fits .reach)))),
     )
 
--- src/lib.rt:55:1
 returns : tie.Need-returns Inv-loop μ-loop
 returns c =
     let s = c .before .before in

@@ -32,33 +32,26 @@ Inv-search g n sums₀ count₀ start₀ k₀ sums count start k = (k ≤ n) × 
 abbrev μ-search : tie.MeasureT-search
 μ-search g n sums₀ count₀ start₀ k₀ sums count start k = n - k
 
--- src/lib.rt:209:20
 single-requires : tie.Need-single-requires Inv-loop μ-loop Inv-search μ-search
 single-requires c κs = c .pre .0 .1
 
--- src/lib.rt:212:5
 search-holds : tie.Need-search-holds Inv-loop μ-loop Inv-search μ-search
 search-holds c =
     let z = c .before in
     (search needs, refl, sums-first (z .args .g) (z .args .n) (z .pre .0) (z .pre .1) (sized mostVertices (z .args .g) _ (z .good .0)) (c .single .result) (c .single .ensures), λ j h. absurd (omega arith))
 
--- src/lib.rt:213:9
 loop-holds : tie.Need-loop-holds Inv-loop μ-loop Inv-search μ-search
 loop-holds c = (search needs, c .before .search .inv .1, clear-none _ _ _)
 
--- src/lib.rt:214:16
 mul-if1 : tie.Need-mul-if1 Inv-loop μ-loop Inv-search μ-search
 mul-if1 c = search needs
 
--- src/lib.rt:214:16
 mul-if1-2 : tie.Need-mul-if1-2 Inv-loop μ-loop Inv-search μ-search
 mul-if1-2 c = search needs
 
--- src/lib.rt:214:16
 index-1-if1 : tie.Need-index-1-if1 Inv-loop μ-loop Inv-search μ-search
 index-1-if1 c = search needs
 
--- src/lib.rt:214:16
 index-2-if1 : tie.Need-index-2-if1 Inv-loop μ-loop Inv-search μ-search
 index-2-if1 c = search needs
 
@@ -79,40 +72,32 @@ closing c =
     let m : l .s < mostVertices = omega (arith, z .pre .0) in
     read mostVertices (o .search .sums) (l .s) (l .s) (o .search .inv .2 .sized) m m ∙ o .search .inv .2 .sum-is (l .s) (l .s) s s
 
--- src/lib.rt:215:25
 add-count : tie.Need-add-count Inv-loop μ-loop Inv-search μ-search
 add-count c = search needs
 
--- src/lib.rt:213:13
 add-s : tie.Need-add-s Inv-loop μ-loop Inv-search μ-search
 add-s c = search needs
 
--- src/lib.rt:213:9
 loop-less : tie.Need-loop-less Inv-loop μ-loop Inv-search μ-search
 loop-less c = search needs
 
--- src/lib.rt:213:9
 loop-again : tie.Need-loop-again Inv-loop μ-loop Inv-search μ-search
 loop-again c =
     let l = c .before .before .before .loop in
     (search needs, l .inv .1, clear-more _ _ _ (l .s) (l .inv .2) (rw (closing (c .before)) at (simp (toZ-ofZ, sum-fits (c .before)) at (c .if1 .left))))
 
--- src/lib.rt:220:16
 further-requires : tie.Need-further-requires Inv-loop μ-loop Inv-search μ-search
 further-requires c κs =
     let o = c .before .before .before in
     let z = o .before .before in
     (z .pre .0, (z .pre .1, sums-wide (z .args .g) (z .args .n) (z .pre .0) (z .pre .1) (o .search .k) (o .search .sums) (o .search .inv .2) (omega (arith, z .pre .0))))
 
--- src/lib.rt:212:18
 add-k : tie.Need-add-k Inv-loop μ-loop Inv-search μ-search
 add-k c = search needs
 
--- src/lib.rt:212:5
 search-less : tie.Need-search-less Inv-loop μ-loop Inv-search μ-search
 search-less c = search needs
 
--- src/lib.rt:212:5
 search-again : tie.Need-search-again Inv-loop μ-loop Inv-search μ-search
 search-again c =
     let a = c .before in
@@ -125,7 +110,6 @@ search-again c =
       counts-more _ _ (z .args .n) (o .search .k) (o .search .inv .3) (rw all at (a .before .loop .inv .2)),
     )
 
--- src/lib.rt:204:1
 returns : tie.Need-returns Inv-loop μ-loop Inv-search μ-search
 returns c =
     let z = c .before .before .before in
@@ -133,7 +117,6 @@ returns c =
     let m : suc (z .args .n - 1) ≡ z .args .n = omega (arith, z .pre .0) in
     rw (o .inv .1) (opens-none (weight (z .args .g)) (z .args .n - 1) (z .args .n) m (λ j h. o .inv .3 j (omega arith)) (o .start))
 
--- src/lib.rt:204:1
 returns-2 : tie.Need-returns-2 Inv-loop μ-loop Inv-search μ-search
 returns-2 c =
     let l = c .before .before .before in

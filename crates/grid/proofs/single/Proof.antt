@@ -16,39 +16,31 @@ Inv-loop g n h₀ s₀ h s = (s ≤ n) × (h ≡ filled (λ s. filled (λ v. wei
 abbrev μ-loop : tie.MeasureT-loop
 μ-loop g n h₀ s₀ h s = n - s
 
--- src/lib.rt:126:5
 loop-holds : tie.Need-loop-holds Inv-loop μ-loop
 unfolding filled
 loop-holds c = (search needs, refl)
 
--- src/lib.rt:127:16
 column-requires : tie.Need-column-requires Inv-loop μ-loop
 column-requires c κs = (c .before .before .pre, c .loop-test .taken)
 
--- src/lib.rt:127:9
 mul-h : tie.Need-mul-h Inv-loop μ-loop
 mul-h c = search needs
 
--- src/lib.rt:127:9
 array-set-from-h : tie.Need-array-set-from-h Inv-loop μ-loop
 array-set-from-h c = search needs
 
--- src/lib.rt:126:9
 add-s : tie.Need-add-s Inv-loop μ-loop
 add-s c = search needs
 
--- src/lib.rt:126:5
 loop-less : tie.Need-loop-less Inv-loop μ-loop
 loop-less c = search needs
 
--- src/lib.rt:126:5
 loop-again : tie.Need-loop-again Inv-loop μ-loop
 loop-again c =
     let l = c .before .before .loop in
     let z = c .before .before .before in
     (omega (arith, c .before .loop-test .taken), filled-more _ (l .s) (z .args .g) (l .h) _ (l .inv .1) (c .column .ensures))
 
--- src/lib.rt:121:1
 returns : tie.Need-returns Inv-loop μ-loop
 unfolding tabled
 returns c =

@@ -15,43 +15,33 @@ use Rattle.grid.proofs.tighten.Reads as reads
 use Rattle.grid.proofs.tighten.Lts as lts
 use Rattle.grid.proofs.lesser.Reads as lesser-reads
 
--- src/lib.rt:38:24
 mul-lesser : tie.Need-mul-lesser
 mul-lesser c = search needs
 
--- src/lib.rt:38:24
 mul-lesser-2 : tie.Need-mul-lesser-2
 mul-lesser-2 c = search needs
 
--- src/lib.rt:38:24
 index-1-lesser : tie.Need-index-1-lesser
 index-1-lesser c = search needs
 
--- src/lib.rt:38:24
 index-2-lesser : tie.Need-index-2-lesser
 index-2-lesser c = search needs
 
--- src/lib.rt:38:9
 lesser-requires : tie.Need-lesser-requires
 lesser-requires c κs = search needs
 
--- src/lib.rt:39:5
 mul-least : tie.Need-mul-least
 mul-least c = search needs
 
--- src/lib.rt:39:5
 mul-least-2 : tie.Need-mul-least-2
 mul-least-2 c = search needs
 
--- src/lib.rt:39:5
 index-1-least : tie.Need-index-1-least
 index-1-least c = search needs
 
--- src/lib.rt:39:5
 index-2-least : tie.Need-index-2-least
 index-2-least c = search needs
 
--- src/lib.rt:33:1
 returns : tie.Need-returns
 unfolding tighten
 returns c =

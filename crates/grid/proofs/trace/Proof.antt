@@ -26,45 +26,35 @@ Inv-loop n start count g ways vertices₀ at₀ sum₀ i₀ vertices at sum i = 
 abbrev μ-loop : tie.MeasureT-loop
 μ-loop n start count g ways vertices₀ at₀ sum₀ i₀ vertices at sum i = count - i
 
--- src/lib.rt:257:19
 cast-vertices : tie.Need-cast-vertices Inv-loop μ-loop
 cast-vertices c = omega (arith, c .pre .0)
 
--- src/lib.rt:257:5
 array-write-vertices : tie.Need-array-write-vertices Inv-loop μ-loop
 array-write-vertices c = search needs
 
--- src/lib.rt:260:5
 loop-holds : tie.Need-loop-holds Inv-loop μ-loop
 loop-holds c =
     let z = c in
     (search needs, z .pre .0 .3, traced-first (z .args .t1) (z .args .n) (z .args .start) (z .args .count) (z .pre .0) (z .pre .1 .0) (replicate mostVertices 0) refl (z .pre .1 .1 .1))
 
--- src/lib.rt:261:21
 mul-edges : tie.Need-mul-edges Inv-loop μ-loop
 mul-edges c = search needs
 
--- src/lib.rt:261:21
 array-copy-out-edges : tie.Need-array-copy-out-edges Inv-loop μ-loop
 array-copy-out-edges c = search needs
 
--- src/lib.rt:262:23
 sub-on : tie.Need-sub-on Inv-loop μ-loop
 sub-on c = search needs
 
--- src/lib.rt:262:23
 sub-on-2 : tie.Need-sub-on-2 Inv-loop μ-loop
 sub-on-2 c = search needs
 
--- src/lib.rt:262:18
 mul-on : tie.Need-mul-on Inv-loop μ-loop
 mul-on c = search needs
 
--- src/lib.rt:262:18
 array-copy-out-on : tie.Need-array-copy-out-on Inv-loop μ-loop
 array-copy-out-on c = search needs
 
--- src/lib.rt:263:13
 first-closing-requires : tie.Need-first-closing-requires Inv-loop μ-loop
 first-closing-requires c κs =
     let l = c .before .before .before .loop in
@@ -88,11 +78,9 @@ below c =
     let u : c .first-closing .result < z .args .n = next-below (z .args .t1) (z .args .n) (z .args .start) (z .args .count) (z .pre .0) (z .pre .1 .0) (z .args .t2) (sized mostVertices (z .args .t1) _ (z .good .0)) (z .pre .1 .1 .0) (l .i) (c .before .before .before .loop-test .taken) (l .vertices) (l .at) (toZ w64 (l .sum)) (l .inv .2) (c .first-closing .result) (c .first-closing .ensures) in
     omega (arith, z .pre .0)
 
--- src/lib.rt:264:21
 mul-sum : tie.Need-mul-sum Inv-loop μ-loop
 mul-sum c = omega (arith, below c)
 
--- src/lib.rt:264:21
 array-copy-out-sum : tie.Need-array-copy-out-sum Inv-loop μ-loop
 array-copy-out-sum c = omega (arith, below c)
 
@@ -118,27 +106,21 @@ exact c =
     let z = c .before .before .before .before .before .before in
     exact-wide _ (bounded-more ((l .i + 1) * farN) wide _ (omega (arith, z .pre .0, c .before .before .before .before .loop-test .taken)) (next-small (z .args .t1) (z .args .n) (z .args .start) (z .args .count) (z .pre .0) (z .pre .1 .0) (z .args .t2) (sized mostVertices (z .args .t1) _ (z .good .0)) (z .pre .1 .1 .0) (l .i) (c .before .before .before .before .loop-test .taken) (l .vertices) (l .at) (toZ w64 (l .sum)) (l .inv .2) (c .before .first-closing .result) (c .before .first-closing .ensures)))
 
--- src/lib.rt:264:15
 add-sum : tie.Need-add-sum Inv-loop μ-loop
 add-sum c = rw (added c) (exact c)
 
--- src/lib.rt:265:23
 cast-vertices-2 : tie.Need-cast-vertices-2 Inv-loop μ-loop
 cast-vertices-2 c = omega (arith, below (c .before), c .before .before .before .before .before .before .pre .0)
 
--- src/lib.rt:265:9
 array-write-vertices-2 : tie.Need-array-write-vertices-2 Inv-loop μ-loop
 array-write-vertices-2 c = omega (arith, c .before .before .before .before .loop-test .taken, c .before .before .before .before .before .before .pre .0)
 
--- src/lib.rt:260:9
 add-i : tie.Need-add-i Inv-loop μ-loop
 add-i c = search needs
 
--- src/lib.rt:260:5
 loop-less : tie.Need-loop-less Inv-loop μ-loop
 loop-less c = search needs
 
--- src/lib.rt:260:5
 loop-again : tie.Need-loop-again Inv-loop μ-loop
 loop-again c =
     let l = c .before .before .before .before .before .loop in
@@ -148,7 +130,6 @@ loop-again c =
       rw (added c, toZ-ofZ (exact c)) (traced-next (z .args .t1) (z .args .n) (z .args .start) (z .args .count) (z .pre .0) (z .pre .1 .0) (z .args .t2) (sized mostVertices (z .args .t1) _ (z .good .0)) (z .pre .1 .1 .0) (l .i) (c .before .before .before .before .loop-test .taken) (l .vertices) (l .at) (toZ w64 (l .sum)) (l .inv .2) (c .before .first-closing .result) (c .before .first-closing .ensures)),
     )
 
--- src/lib.rt:249:1
 returns : tie.Need-returns Inv-loop μ-loop
 returns c =
     let l = c .before .loop in

@@ -19,34 +19,27 @@ Inv-loop g n s count h₀ j₀ h j = (0 < j) × (j ≤ count) × Ways g n s j h
 abbrev μ-loop : tie.MeasureT-loop
 μ-loop g n s count h₀ j₀ h j = count - j
 
--- src/lib.rt:232:9
 column-requires : tie.Need-column-requires Inv-loop μ-loop
 column-requires c κs = (c .pre .0 .1, c .pre .0 .2)
 
--- src/lib.rt:233:5
 array-set-from-h : tie.Need-array-set-from-h Inv-loop μ-loop
 array-set-from-h c = search needs
 
--- src/lib.rt:234:5
 loop-holds : tie.Need-loop-holds Inv-loop μ-loop
 loop-holds c =
     let z = c .before in
     let sz = sized mostVertices (z .args .g) _ (z .good .0) in
     (search needs, z .pre .0 .3, ways-first (z .args .g) (z .args .n) (z .pre .0 .0, z .pre .0 .1) (z .pre .1) (z .args .s) (z .args .g) (c .column .result) (z .pre .0 .2) sz sz (c .column .ensures))
 
--- src/lib.rt:235:20
 sub-on : tie.Need-sub-on Inv-loop μ-loop
 sub-on c = search needs
 
--- src/lib.rt:235:18
 mul-on : tie.Need-mul-on Inv-loop μ-loop
 mul-on c = search needs
 
--- src/lib.rt:235:18
 array-copy-out-on : tie.Need-array-copy-out-on Inv-loop μ-loop
 array-copy-out-on c = search needs
 
--- src/lib.rt:236:13
 longer-requires : tie.Need-longer-requires Inv-loop μ-loop
 longer-requires c κs =
     let l = c .before .before .loop in
@@ -54,23 +47,18 @@ longer-requires c κs =
     let hn : (0 < z .args .n) × (z .args .n ≤ mostVertices) = (z .pre .0 .0, z .pre .0 .1) in
     (hn, (z .pre .1, way-within (z .args .g) (z .args .n) hn (z .pre .1) (z .args .s) (l .j) (l .h) (z .pre .0 .2) (omega (arith, z .pre .0)) (l .inv .2) (l .j - 1) (omega arith)))
 
--- src/lib.rt:237:9
 mul-h : tie.Need-mul-h Inv-loop μ-loop
 mul-h c = search needs
 
--- src/lib.rt:237:9
 array-set-from-h-2 : tie.Need-array-set-from-h-2 Inv-loop μ-loop
 array-set-from-h-2 c = search needs
 
--- src/lib.rt:234:9
 add-j : tie.Need-add-j Inv-loop μ-loop
 add-j c = search needs
 
--- src/lib.rt:234:5
 loop-less : tie.Need-loop-less Inv-loop μ-loop
 loop-less c = search needs
 
--- src/lib.rt:234:5
 loop-again : tie.Need-loop-again Inv-loop μ-loop
 loop-again c =
     let l = c .before .before .before .loop in
@@ -80,7 +68,6 @@ loop-again c =
       ways-next (z .args .g) (z .args .n) (z .pre .0 .0, z .pre .0 .1) (z .pre .1) (z .args .s) (l .j) (l .h) (c .longer .result) (z .pre .0 .2) (l .inv .0) (omega (arith, z .pre .0, c .before .before .loop-test .taken)) (l .inv .2) (c .longer .ensures),
     )
 
--- src/lib.rt:226:1
 returns : tie.Need-returns Inv-loop μ-loop
 returns c =
     let all : c .before .loop .j ≡ c .before .before .before .args .count = omega arith in
