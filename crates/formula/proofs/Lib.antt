@@ -16,3 +16,6 @@ pub mod Weights
 pub mod Shapes
 pub mod Sightings
 pub mod Examples
+pub mod Stepwise
+pub mod Ranging
+pub mod Shown

@@ -7,7 +7,6 @@ use native.Mathlib.Omega.{arith}
 use borrow.Author.Tests.{eq-eqb, ne-eqb}
 use lib.ListN.{length, getD, take, drop, length-map, List·getD-map, length-drop}
 use lib.Seq.{take-add, take-all, drop-drop, getD-take, length-take-le}
-use lib.IntN.{pos}
 use Rattle.meaning.specs.Contents.{Range, columns, columnsOf, first}
 use Rattle.question.specs.Layout.{total, firstOf, widthOf, tablesOf, tableOf, visibleFrom, questionFrom}
 use Rattle.question.specs.Layout as L
@@ -16,7 +15,7 @@ use Rattle.question.specs.Held as H
 use Rattle.question.specs.declared.types.Question.{Question}
 use Rattle.question.specs.declared.types.Column.{Column}
 use Rattle.formula.specs.Formulas.{among}
-use Rattle.formula.specs.Seen.{Whole}
+use Rattle.formula.specs.Seen.{Whole, noColumn}
 
 -- ---- tables of given widths, side by side again
 
@@ -103,10 +102,6 @@ among-shown (c ∷ cs) k (suc i) j e = go (c .range) (c .shown) (among-shown cs 
     go g true d = ap₂ _||_ (ne-eqb k j (λ x. absurd (omega arith))) d
     go g false d = d
 
--- the machine's column past the end of an array
-abbrev pub noColumn : Column
-noColumn = record { lo = pos 0; hi = pos 0; visible = false }
-
 pub visible-is : (q : Question) (i : ℕ) → i < q .shape .total → among (questionOf q .visible) i ≡ getD (q .columns) i noColumn .visible
 unfolding questionOf questionFrom
 visible-is q i h =
@@ -114,3 +109,7 @@ visible-is q i h =
     ∙ List·getD-map (λ c. c .shown) (H.columnsOf q) i (columnOf noColumn)
     ∙ ap (λ c. c .shown) (List·getD-map columnOf (take (q .shape .total) (q .columns)) i noColumn)
     ∙ ap (λ c. c .visible) (getD-take (q .shape .total) (q .columns) i noColumn h)
+
+pub condition-is : (q : Question) → questionOf q .condition ≡ H.conditionOf (q .condition)
+unfolding questionOf questionFrom
+condition-is q = refl

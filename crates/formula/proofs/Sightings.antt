@@ -1,6 +1,6 @@
 -- What the code finds for a column is what the sight says: its vertex, its mode, its term.
 use mathlib.Core.Path.{_≡_, refl, sym, ap, _∙_}
-use mathlib.Core.Bool.{Bool, true, false}
+use mathlib.Core.Bool.{Bool, true, false, cond}
 use mathlib.Core.List.{List, [], _∷_, _++_, map}
 use Prim.Native.Nat.{ℕ, zero, suc, _+_, _-_, _≤_, _<_}
 use native.Mathlib.Numerals.{add-one}
@@ -14,19 +14,20 @@ use Rattle.ints.proofs.Bridge.{ints, +law}
 use Rattle.ints.proofs.Machine.{machine}
 use Rattle.meaning.specs.Contents.{Mode, keep, become, shift, columns, first}
 use Rattle.meaning.specs.Contents as M
+use Rattle.meaning.specs.Trouble.{modeAt}
 use Rattle.meaning.specs.WellFormed.{Reads}
 use Rattle.question.specs.Held.{settingOf, questionOf}
 use Rattle.question.specs.declared.types.Question.{Question}
 use Rattle.question.specs.declared.types.Mode.the-variants.{Keep}
 use Rattle.question.specs.declared.types.Setting.{Setting}
 use Rattle.formula.specs.Program as P
-use Rattle.formula.specs.Compile.{plus}
-use Rattle.formula.specs.Formulas.{vertex}
+use Rattle.formula.specs.Compile.{constantTerm, plus}
+use Rattle.formula.specs.Formulas.{vertex, newTerm, after}
 use Rattle.formula.specs.Built.{termOf, Near}
-use Rattle.formula.specs.Seen.{rowSight, modesOf, modeIn, sightOf, There, Whole, Usable, Stands, ModeReads}
+use Rattle.formula.specs.Seen.{noColumn, stillOf, rowSight, modesOf, modeIn, sightOf, There, Whole, Usable, Stands, ModeReads}
 use Rattle.formula.specs.declared.types.Sight.{Sight}
 use Rattle.formula.specs.declared.types.Term.{Term}
-use Rattle.formula.proofs.Shapes.{noColumn, visible-is, columns-length, first-is}
+use Rattle.formula.proofs.Shapes.{visible-is, columns-length, first-is}
 
 -- ---- vertices
 
@@ -79,6 +80,10 @@ module _ (q : Question) (s : Sight) (i : ℕ) (u : Usable q s) (e : s .moved ≡
   pub mode-inside : q .shape .first ≤ i → i - q .shape .first < q .shape .width → settingOf (getD (s .settings) (i - q .shape .first) noSetting) ≡ modeIn q s i
   mode-inside h g = rw (e, first-is q (u .whole)) (mode-listed (s .settings) (q .shape .width) (i - q .shape .first) g ∙ sym (from (q .shape .first) (modesOf q s) i h))
 
+  -- the changed table's column j
+  pub mode-from : (j : ℕ) → i ≡ q .shape .first + j → modeIn q s i ≡ getD (modesOf q s) j keep
+  mode-from j h = rw (e, first-is q (u .whole)) (from (q .shape .first) (modesOf q s) i (omega arith) ∙ ap (λ k. getD (modesOf q s) k keep) (omega arith))
+
   pub mode-reads : i - q .shape .first < q .shape .width → ModeReads (There q) (settingOf (getD (s .settings) (i - q .shape .first) noSetting))
   mode-reads g =
       rw (mode-listed (s .settings) (q .shape .width) (i - q .shape .first) g)
@@ -95,6 +100,9 @@ row-term q false i = refl
 
 none-more : (k : ℤ) → pos 0 +ℤ k ≡ k
 none-more k = omega (ints, +law (pos 0) k)
+
+pub stands-constant : (k : ℤ) → SFits w32 k → Stands (record { vertex = 0; offset = k }) (constantTerm k)
+stands-constant k f = record { is = refl; low = omega (arith, machine); high = omega (arith, machine) }
 
 module _ (q : Question) (s : Sight) (i : ℕ) where
   pub stands-keep : (v : ℕ) → modeIn q s i ≡ keep → v ≡ rowSight (questionOf q) (s .second) i .vertex → Stands (record { vertex = v; offset = pos 0 }) (sightOf q s i)
@@ -128,3 +136,17 @@ module _ (t : Term) (u : P.Term) (k : ℤ) (s : Stands t u) (f : SFits w32 k) wh
 
 pub stands-fits : (t : Term) (u : P.Term) → Stands t u → SFits w64 (t .offset)
 stands-fits t u s = omega (arith, machine, s .low, s .high)
+
+pub stands-near : {t : Term} {u : P.Term} → Stands t u → Near t
+stands-near s = record { low = omega (arith, machine, s .low, s .high); high = omega (arith, machine, s .low, s .high) }
+
+-- ---- sights that move and those that do not
+
+pub sight-moved : (q : Question) (s : Sight) → s .moved ≡ true → sightOf q s ≡ after (questionOf q) (modesOf q s) (rowSight (questionOf q) (s .second))
+unfolding after
+sight-moved q s e =
+    let σ = rowSight (questionOf q) (s .second) in
+    ap (λ t i. newTerm (cond t (modeAt (questionOf q) (modesOf q s) i) keep) σ (σ i)) e
+
+pub usable-still : {q : Question} {s : Sight} → Usable q s → Usable q (stillOf s)
+usable-still u = record { whole = u .whole; long = u .long; reads = tt }

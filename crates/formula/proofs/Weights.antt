@@ -1,4 +1,5 @@
 -- Weights are exact in i64, and steps of a known size one after the other.
+use mathlib.Core.Path.{_≡_, subst}
 use mathlib.Core.List.{_++_}
 use Prim.Native.Nat.{ℕ, _+_, _≤_}
 use native.Mathlib.Omega.{arith}
@@ -28,3 +29,7 @@ more a b = record { emits = a .emits then b .emits; few = omega arith; fewPlaces
 -- a larger bound
 pub within : {p r : Program} {n m k l : ℕ} {x : P.Program} → n ≤ k → m ≤ l → Builds p r n m x → Builds p r k l x
 within h g a = record { emits = a .emits; few = omega arith; fewPlaces = omega arith }
+
+-- the same instructions, said otherwise
+pub said : {p r : Program} {n m : ℕ} {x y : P.Program} → x ≡ y → Builds p r n m x → Builds p r n m y
+said {p} {r} {n} {m} e b = subst (λ x. Builds p r n m x) e b

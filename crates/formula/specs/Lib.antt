@@ -7,3 +7,4 @@ pub mod Formulas
 pub mod Cells
 pub mod Built
 pub mod Seen
+pub mod Partway

@@ -13,6 +13,7 @@ use Rattle.meaning.specs.Trouble.{modeAt}
 use Rattle.meaning.specs.WellFormed.{Reads}
 use Rattle.question.specs.Held.{settingOf, questionOf, Held}
 use Rattle.question.specs.declared.types.Question.{Question}
+use Rattle.question.specs.declared.types.Column.{Column}
 use Rattle.formula.specs.Compile as C
 use Rattle.formula.specs.Program as P
 use Rattle.formula.specs.Formulas.{firstSight, secondSight, newTerm}
@@ -33,6 +34,10 @@ modeIn q s i = cond (s .moved) (modeAt (questionOf q) (modesOf q s) i) keep
 abbrev pub sightOf : Question → Sight → C.Sight
 sightOf q s i = newTerm (modeIn q s i) (rowSight (questionOf q) (s .second)) (rowSight (questionOf q) (s .second) i)
 
+-- the same row as it is
+abbrev pub stillOf : Sight → Sight
+stillOf s = record { settings = s .settings; second = s .second; moved = false }
+
 -- a column of the question
 abbrev pub There : Question → ℕ → Type 0
 There q i = i < q .shape .total
@@ -49,6 +54,7 @@ pub record Whole (q : Question) : Type 0 where
 -- and a sight whose new values come from its columns
 pub record Usable (q : Question) (s : Sight) : Type 0 where
   pub whole : Whole q
+  pub long : length (s .settings) ≡ mostColumns
   pub reads : ReadsIf (s .moved) (There q) (modesOf q s)
 
 -- what stands for a column: its offset is an i32
@@ -56,6 +62,10 @@ pub record Stands (r : Term) (t : P.Term) : Type 0 where
   pub is : termOf r ≡ t
   pub low : negℤ (pos 2147483648) ≤ℤ r .offset
   pub high : r .offset ≤ℤ pos 2147483648
+
+-- the machine's column past the end of an array
+abbrev pub noColumn : Column
+noColumn = record { lo = pos 0; hi = pos 0; visible = false }
 
 -- the column that a new value comes from is there
 abbrev pub ModeReads : (ℕ → Type 0) → Mode → Type 0

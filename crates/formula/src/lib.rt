@@ -1,5 +1,7 @@
 // The formulas of a question as programs over vertices: specs/Formulas says what they are.
 pub mod build;
+pub mod joining;
 pub mod knowing;
 pub mod seeing;
+pub mod telling;
 pub mod types;

@@ -10,7 +10,7 @@ ghost use mathlib.Core.Path.{_≡_};
 ghost use Prim.Native.Nat.{_<_};
 ghost use Rattle.meaning.specs.WellFormed.{SideUses};
 ghost use Rattle.question.specs.Held.{modeOf, sideOf, questionOf};
-ghost use Rattle.formula.specs.Compile.{sideTerm};
+ghost use Rattle.formula.specs.Compile.{constantTerm, sideTerm};
 ghost use Rattle.formula.specs.Built.{termOf, Near};
 ghost use Rattle.formula.specs.Seen.{rowSight, modeIn, sightOf, There, Whole, Usable, Stands, ModeReads};
 
@@ -51,6 +51,16 @@ pub fn mode_at(q: Question, s: Sight, i: u8) -> Mode
         return setting.mode;
     }
     Mode::Keep
+}
+
+// "A constant side uses vertex 0"
+pub fn constant(k: i32) -> Term
+    ensures { λ r. ⌜ Stands r (constantTerm k) ⌝ }
+{
+    Term {
+        vertex: 0,
+        offset: wide(k),
+    }
 }
 
 pub fn term_at(q: Question, s: Sight, i: u8) -> Term
