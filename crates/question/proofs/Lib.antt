@@ -18,3 +18,4 @@ pub mod Uniques
 pub mod Totals
 pub mod Visible
 pub mod Chain
+pub mod Examples

@@ -22,6 +22,7 @@ within low high x = leb low x && ltb x high
 abbrev pub inside : ℤ → ℤ → ℤ → Bool
 inside a b k = leZ a k && leZ k b
 
+-- is there one
 abbrev pub some : List ℕ → Bool
 some [] = false
 some (i ∷ is) = true
@@ -29,30 +30,40 @@ some (i ∷ is) = true
 module _ (s : List ℕ) where
   -- is the field at p as 01 says
   unfoldable pub asSaid : Field → ℕ → Bool
+  -- "the mark `VUQ` (one field); version u16 = 1"
   asSaid mark p = eqb (getD s p 0) 86 && eqb (getD s (p + 1) 0) 85 && eqb (getD s (p + 2) 0) 81
   asSaid version p = eqb (getD s p 0 + 256 * getD s (p + 1) 0) 1
+  -- "1 to 4 tables"; "change kind (1 insert, 2 delete, 3 modify)"; "changed table from 0"
   asSaid tableCount p = within 1 (upTo mostTables) (getD s p 0)
   asSaid changeKind p = within 1 (upTo 3) (getD s p 0)
   asSaid (changedTable n) p = within 0 n (getD s p 0)
+  -- "each with at least 1 column, at most 8 columns in all"
   asSaid (columnCount n) p = within 1 (upTo n) (getD s p 0)
+  -- "−1,000,000,000 ≤ lo ≤ hi ≤ 1,000,000,000"; "visible 0 or 1"; "At least one column is visible"
   asSaid lo p = inside (negℤ farthest) farthest (int32 s p)
-  asSaid visible p = within 0 (upTo 1) (getD s p 0)
   asSaid (hi k) p = inside k farthest (int32 s p)
+  asSaid visible p = within 0 (upTo 1) (getD s p 0)
   asSaid (someVisible is) p = some is
+  -- "at most 16 tokens with at most 6 comparisons"; tokens 1 to 4; "a token lacks an operand"
   asSaid tokenCount p = within 0 (upTo mostTokens) (getD s p 0)
   asSaid token p = within 1 (upTo 4) (getD s p 0)
-  asSaid op p = within 1 (upTo 6) (getD s p 0)
-  asSaid constant p = inside (negℤ largest) largest (int32 s p)
   asSaid (seventh n) p = ltb n mostComparisons
   asSaid (operands m n) p = leb m n
+  -- "op (1 <, 2 ≤, 3 =, 4 ≥, 5 >, 6 ≠), left column, right column or 255 for none, constant i32"
+  asSaid op p = within 1 (upTo 6) (getD s p 0)
   asSaid (column low high) p = within low high (getD s p 0)
   asSaid (rightColumn low high) p = eqb (getD s p 0) none || within low high (getD s p 0)
+  asSaid constant p = inside (negℤ largest) largest (int32 s p)
+  -- "a nonempty condition doesn't end with one value"
   asSaid (finish ts) p = finished ts
+  -- "Insert adds 0 to 4 rows"; "every value in range"
   asSaid rowCount p = within 0 (upTo mostRows) (getD s p 0)
   asSaid (inserted g) p = inside (g .lo) (g .hi) (int32 s p)
+  -- "mode (0 keep, 1 constant, 2 column plus constant), column (255 unless mode 2), constant i32 (0 for keep)"
   asSaid mode p = within 0 (upTo 2) (getD s p 0)
   asSaid noColumn p = within none (upTo none) (getD s p 0)
   asSaid zeroConstant p = inside (pos 0) (pos 0) (int32 s p)
+  -- "bytes after the end"
   asSaid end p = leb (length s) p
 
 -- the number that a field earns which isn't as said

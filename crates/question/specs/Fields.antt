@@ -72,19 +72,23 @@ size noColumn = 1
 size zeroConstant = 4
 size end = 0
 
+-- how many bytes some fields have
 unfoldable pub sizes : List Field → ℕ
 sizes [] = 0
 sizes (f ∷ fs) = size f + sizes fs
 
 -- ---- fields and what they hold
 
+-- some fields in order, and what they hold
 pub record Laid (A : Type 0) : Type 0 where
   pub fields : List Field
   pub value : A
 
+-- those fields, holding that
 abbrev pub laid : {A : Type 0} → List Field → A → Laid A
 laid fs a = record { fields = fs; value = a }
 
+-- the fields of both, holding what the second hold
 abbrev before : {A B : Type 0} → Laid A → Laid B → Laid B
 before x y = laid (x .fields ++ y .fields) (y .value)
 
@@ -98,11 +102,13 @@ runs f zero done p = laid [] done
 runs f (suc k) done p = followed p (f done p) λ a p. runs f k (done ++ (a ∷ [])) p
 
 module _ (s : List ℕ) where
+  -- the byte at p, 0 past the end
   abbrev pub byteAt : ℕ → ℕ
   byteAt p = getD s p 0
 
   -- ---- columns
 
+  -- a table's column count, after those of other tables
   abbrev pub widthFields : List ℕ → ℕ → Laid ℕ
   widthFields ws p = laid (columnCount (mostColumns - total ws) ∷ []) (byteAt p)
 
@@ -138,6 +144,7 @@ module _ (s : List ℕ) where
 
   -- ---- changes; gs are the changed table's ranges, low is its first column's number
 
+  -- an inserted value, after those before it
   abbrev pub valueFields : List Range → Values → ℕ → Laid ℤ
   valueFields gs vs p = laid (inserted (getD gs (length vs) (record { lo = pos 0; hi = pos 0 })) ∷ []) (int32 s p)
 
@@ -185,9 +192,10 @@ module _ (s : List ℕ) where
       followed p (changeFields (byteAt 6) (firstOf ws changed) (tableOf ws changed (rangesOf cs)) p) λ ch p.
       laid (end ∷ []) (questionFrom ws changed cs c ch)
 
--- the fields of a byte string, and the question that they make
+-- the fields of a byte string
 abbrev pub fieldsOf : List ℕ → List Field
 fieldsOf s = questionFields s .fields
 
+-- the question that they make
 abbrev pub questionIn : List ℕ → Question
 questionIn s = questionFields s .value
