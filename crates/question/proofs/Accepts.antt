@@ -17,7 +17,8 @@ use Rattle.question.specs.Accepted.{Every, RangeOk, ChangeAccepted, Asce
 use Rattle.question.proofs.Holds.{Holds, Finds, holds-so, Between, Inside, then-holds, cond-holds, byte-holds, int-holds, many-holds}
 use Rattle.question.proofs.Conditions.{every-snoc, Sound, condition-holds}
 use Rattle.question.proofs.Changes.{ChangeFits, change-holds}
-use Rattle.question.proofs.Layouts.{tables-length, total-snoc, total-split, each-some, every-at, every-take, every-drop, changed-length, columns-from, columns-count, first-from, ascending}
+use Rattle.question.proofs.Totals.{total-snoc}
+use Rattle.question.proofs.Layouts.{tables-length, total-split, each-some, every-at, every-take, every-drop, changed-length, columns-from, columns-count, first-from, ascending}
 
 -- ---- columns
 

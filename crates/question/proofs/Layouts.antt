@@ -21,11 +21,6 @@ unfolding tablesOf
 tables-length [] gs = refl
 tables-length (w ∷ ws) gs = ap suc (tables-length ws (drop w gs))
 
-pub total-snoc : (ws : List ℕ) (w : ℕ) → total (ws ++ (w ∷ [])) ≡ total ws + w
-unfolding total
-total-snoc [] w = omega arith
-total-snoc (x ∷ ws) w = omega (arith, total-snoc ws w)
-
 -- tables of at least one column, where there are columns enough
 pub each-some : (ws : List ℕ) (gs : List Range) → Every (λ w. 1 ≤ w) ws → total ws ≤ length gs → Every (λ t. 1 ≤ length t) (tablesOf ws gs)
 unfolding tablesOf total
