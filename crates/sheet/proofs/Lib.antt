@@ -26,8 +26,6 @@ pub mod Twelves
 pub mod Positions
 pub mod Columns
 pub mod Demands
-pub mod Growths
-pub mod Halves
 pub mod Allowed
 pub mod FieldRun
 pub mod Valued

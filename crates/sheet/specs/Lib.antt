@@ -9,5 +9,4 @@ pub mod Fast
 pub mod Demands
 pub mod Checking
 pub mod Twelve
-pub mod Growing
 pub mod NoSheet
