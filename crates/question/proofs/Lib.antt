@@ -14,7 +14,7 @@ pub mod Judges
 pub mod PieceJudges
 pub mod QuestionJudges
 pub mod Refusals
-pub mod Uniques
+pub mod Promises
 pub mod Totals
 pub mod Visible
 pub mod Chain
