@@ -4,10 +4,10 @@ use mathlib.Core.Bool.{Bool, true, false}
 use mathlib.Core.List.{List, [], _∷_, map}
 use Prim.Native.Nat.{ℕ, zero, suc, _+_, _≤_}
 use native.Mathlib.Omega.{arith}
-use lib.ListN.{length, take, drop}
+use lib.ListN.{take, drop}
 use lib.Seq.{take-take}
 use Rattle.question.specs.Layout as L
-use Rattle.question.specs.Reader.{Outcome, Read, bad, At, found, andThen, changeAt, fromVisible, fromCondition}
+use Rattle.question.specs.Reader.{Read, bad, changeAt, fromVisible, fromCondition}
 use Rattle.question.specs.Held.{Reads, ShapeHeld, widthsOf, columnOf}
 use Rattle.question.specs.Pieces.{rangesAt}
 use Rattle.question.specs.Shapes.{some}

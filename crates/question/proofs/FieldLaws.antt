@@ -12,7 +12,7 @@ use native.Mathlib.Omega.{arith}
 use Rattle.ints.proofs.Machine.{machine}
 use Rattle.ints.specs.Bytes.{int32}
 use Rattle.question.proofs.Steps.{same-found, not-both}
-use Rattle.question.specs.Reader.{Outcome, bad, At, found, byte, int}
+use Rattle.question.specs.Reader.{bad, found, byte, int}
 
 module _ (s : List ℕ) (n low high p : ℕ) where
   pub short : length s ≤ p → bad 1 p ≡ byte s n low high p

@@ -1,7 +1,7 @@
 -- The reader of 01: "Fields are read in order. Each is tested first for length, then for its value; the first fault is the answer,
 -- with the offset where that field starts." A suffix `from..` reads its field and all that follows.
 use Prim.Native.Nat.{ℕ, zero, suc, _+_, _-_, _*_}
-use mathlib.Core.Bool.{Bool, true, false, cond, _&&_}
+use mathlib.Core.Bool.{Bool, true, cond, _&&_}
 use mathlib.Core.List.{List, [], _∷_, _++_, foldl}
 use lib.Dec.{ltb, leb, eqb}
 use lib.ListN.{length, getD}
@@ -11,7 +11,7 @@ use Rattle.ints.specs.Bytes.{int32}
 use Rattle.meaning.specs.Limits.{mostTables, mostColumns, mostTokens, mostComparisons, mostRows}
 use Rattle.meaning.specs.Condition.{Op, less, atMost, equal, atLeast, more, unequal, Side, constant, column, Token, compare, both, either, negate, Condition}
 use Rattle.meaning.specs.Contents.{Range, Mode, keep, become, shift, Values, Change, insert, delete, modify, Question}
-use Rattle.question.specs.Layout.{Column, rangesOf, total, firstOf, widthOf, tableOf, visibleFrom, questionFrom}
+use Rattle.question.specs.Layout.{Column, rangesOf, total, firstOf, tableOf, visibleFrom, questionFrom}
 
 -- ---- answers
 

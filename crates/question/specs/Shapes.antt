@@ -11,7 +11,6 @@ use Rattle.question.specs.Layout as L
 use Rattle.question.specs.Reader.{Outcome, bad, At, found, andThen, byte, int, upTo, farthest}
 use Rattle.question.specs.Held.{columnOf}
 use Rattle.question.specs.Pieces.{listOf, IfGood}
-use Rattle.question.specs.declared.types.Answer.{Answer}
 use Rattle.question.specs.declared.columns.Pillar.{Pillar}
 use Rattle.question.specs.declared.columns.Pillar.the-variants as pillar
 use Rattle.question.specs.declared.columns.Pillars.{Pillars}

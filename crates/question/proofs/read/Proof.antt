@@ -3,10 +3,6 @@ use Rattle.question.specs.Reader.{readOf}
 use borrow.Author.Needs.{needs}
 use Rattle.question.proofs.read.Statement.{statement}
 use Rattle.question.proofs.read.Tie as tie
-use Rattle.question.proofs.read.Reads as reads
-use Rattle.question.proofs.read.Lts as lts
-use Rattle.question.proofs.reader.from_version.Reads as from-version-reads
-use Rattle.question.proofs.reader.refusal.Reads as refusal-reads
 
 refusal-requires : tie.Need-refusal-requires
 refusal-requires c κs = search needs

@@ -4,11 +4,6 @@ use Rattle.question.proofs.RowRun.{ranges-length}
 use borrow.Author.Needs.{needs}
 use Rattle.question.proofs.change.change_at.Statement.{statement}
 use Rattle.question.proofs.change.change_at.Tie as tie
-use Rattle.question.proofs.change.change_at.Reads as reads
-use Rattle.question.proofs.change.change_at.Lts as lts
-use Rattle.question.proofs.change.delete_at.Reads as delete-at-reads
-use Rattle.question.proofs.change.insert_at.Reads as insert-at-reads
-use Rattle.question.proofs.change.modify_at.Reads as modify-at-reads
 
 insert-at-requires : tie.Need-insert-at-requires
 insert-at-requires c κs = search needs

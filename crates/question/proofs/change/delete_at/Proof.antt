@@ -7,10 +7,6 @@ use Rattle.question.proofs.Steps.{on-good, on-bad}
 use borrow.Author.Needs.{needs}
 use Rattle.question.proofs.change.delete_at.Statement.{statement}
 use Rattle.question.proofs.change.delete_at.Tie as tie
-use Rattle.question.proofs.change.delete_at.Reads as reads
-use Rattle.question.proofs.change.delete_at.Lts as lts
-use Rattle.question.proofs.change.no_deed.Reads as no-deed-reads
-use Rattle.question.proofs.condition.condition_at.Reads as condition-at-reads
 
 condition-at-requires : tie.Need-condition-at-requires
 condition-at-requires c κs = search needs

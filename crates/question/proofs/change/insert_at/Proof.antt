@@ -8,12 +8,6 @@ use Rattle.question.proofs.FieldLaws.{is-within}
 use borrow.Author.Needs.{needs}
 use Rattle.question.proofs.change.insert_at.Statement.{statement}
 use Rattle.question.proofs.change.insert_at.Tie as tie
-use Rattle.question.proofs.change.insert_at.Reads as reads
-use Rattle.question.proofs.change.insert_at.Lts as lts
-use Rattle.question.proofs.change.inserted.Reads as inserted-reads
-use Rattle.question.proofs.change.no_deed.Reads as no-deed-reads
-use Rattle.question.proofs.fields.byte_at.Reads as byte-at-reads
-use Rattle.question.proofs.rows.rows_at.Reads as rows-at-reads
 
 byte-at-requires : tie.Need-byte-at-requires
 byte-at-requires c κs = search needs

@@ -3,10 +3,6 @@ use native.Mathlib.Omega.{arith}
 use borrow.Author.Needs.{needs}
 use Rattle.question.proofs.change.inserted.Statement.{statement}
 use Rattle.question.proofs.change.inserted.Tie as tie
-use Rattle.question.proofs.change.inserted.Reads as reads
-use Rattle.question.proofs.change.inserted.Lts as lts
-use Rattle.question.proofs.change.no_deed.Reads as no-deed-reads
-use Rattle.question.proofs.condition.always.Reads as always-reads
 
 enum-told : tie.Need-enum-told
 enum-told c = search needs

@@ -3,9 +3,6 @@ use native.Mathlib.Omega.{arith}
 use borrow.Author.Needs.{needs}
 use Rattle.question.proofs.change.modified.Statement.{statement}
 use Rattle.question.proofs.change.modified.Tie as tie
-use Rattle.question.proofs.change.modified.Reads as reads
-use Rattle.question.proofs.change.modified.Lts as lts
-use Rattle.question.proofs.change.no_deed.Reads as no-deed-reads
 
 enum-told : tie.Need-enum-told
 enum-told c = search needs

@@ -1,5 +1,4 @@
-use native.Mathlib.Omega.{arith}
-use mathlib.Core.Path.{refl, sym, ap, _∙_}
+use mathlib.Core.Path.{sym, ap, _∙_}
 use Rattle.meaning.specs.Contents.{modify}
 use Rattle.question.specs.Reader.{modifyAt, andThen, found}
 use Rattle.question.specs.Held.{conditionOf}
@@ -9,12 +8,6 @@ use Rattle.question.proofs.Steps.{on-good, on-bad}
 use borrow.Author.Needs.{needs}
 use Rattle.question.proofs.change.modify_at.Statement.{statement}
 use Rattle.question.proofs.change.modify_at.Tie as tie
-use Rattle.question.proofs.change.modify_at.Reads as reads
-use Rattle.question.proofs.change.modify_at.Lts as lts
-use Rattle.question.proofs.change.modified.Reads as modified-reads
-use Rattle.question.proofs.change.no_deed.Reads as no-deed-reads
-use Rattle.question.proofs.condition.condition_at.Reads as condition-at-reads
-use Rattle.question.proofs.modes.modes_at.Reads as modes-at-reads
 
 add-high : tie.Need-add-high
 add-high c = search needs

@@ -3,9 +3,6 @@ use native.Mathlib.Omega.{arith}
 use borrow.Author.Needs.{needs}
 use Rattle.question.proofs.change.no_deed.Statement.{statement}
 use Rattle.question.proofs.change.no_deed.Tie as tie
-use Rattle.question.proofs.change.no_deed.Reads as reads
-use Rattle.question.proofs.change.no_deed.Lts as lts
-use Rattle.question.proofs.condition.always.Reads as always-reads
 
 always-requires : tie.Need-always-requires
 always-requires c κs = search needs

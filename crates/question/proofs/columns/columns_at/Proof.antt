@@ -1,4 +1,4 @@
-use mathlib.Core.Path.{_≡_, sym, ap, _∙_, refl}
+use mathlib.Core.Path.{sym, ap, _∙_, refl}
 use mathlib.Core.List.{[]}
 use Prim.Native.Nat.{_-_}
 use Rattle.question.specs.Reader.{many, columnAt}
@@ -8,9 +8,6 @@ use Rattle.question.proofs.Loops.{Going, going-start, going-on, going-b
 use borrow.Author.Needs.{needs}
 use Rattle.question.proofs.columns.columns_at.Statement.{statement}
 use Rattle.question.proofs.columns.columns_at.Tie as tie
-use Rattle.question.proofs.columns.columns_at.Reads as reads
-use Rattle.question.proofs.columns.columns_at.Lts as lts
-use Rattle.question.proofs.columns.column_at.Reads as column-at-reads
 
 abbrev Inv-loop : tie.InvT-loop
 Inv-loop s n p columns₀ next₀ i₀ columns next i =

@@ -8,10 +8,6 @@ use Rattle.question.proofs.Steps.{on-good, on-bad}
 use borrow.Author.Needs.{needs}
 use Rattle.question.proofs.columns.high_at.Statement.{statement}
 use Rattle.question.proofs.columns.high_at.Tie as tie
-use Rattle.question.proofs.columns.high_at.Reads as reads
-use Rattle.question.proofs.columns.high_at.Lts as lts
-use Rattle.question.proofs.fields.byte_at.Reads as byte-at-reads
-use Rattle.question.proofs.fields.number_at.Reads as number-at-reads
 
 number-at-requires : tie.Need-number-at-requires
 number-at-requires c κs = search needs

@@ -9,8 +9,6 @@ use Rattle.question.proofs.Visible.{some-visible, none-visible}
 use borrow.Author.Needs.{needs}
 use Rattle.question.proofs.columns.some_visible.Statement.{statement}
 use Rattle.question.proofs.columns.some_visible.Tie as tie
-use Rattle.question.proofs.columns.some_visible.Reads as reads
-use Rattle.question.proofs.columns.some_visible.Lts as lts
 
 abbrev Inv-loop : tie.InvT-loop
 Inv-loop n columns i₀ i = (i ≤ n) × ((j : ℕ) → j < i → getD columns j noColumn .visible ≡ false)

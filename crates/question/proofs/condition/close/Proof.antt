@@ -2,10 +2,6 @@ use Rattle.question.proofs.Answers.{good-so}
 use borrow.Author.Needs.{needs}
 use Rattle.question.proofs.condition.close.Statement.{statement}
 use Rattle.question.proofs.condition.close.Tie as tie
-use Rattle.question.proofs.condition.close.Reads as reads
-use Rattle.question.proofs.condition.close.Lts as lts
-use Rattle.question.proofs.condition.closed.Reads as closed-reads
-use Rattle.question.proofs.condition.no_clause.Reads as no-clause-reads
 
 enum-told : tie.Need-enum-told
 enum-told c = search needs

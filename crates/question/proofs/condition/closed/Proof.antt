@@ -1,4 +1,4 @@
-use mathlib.Core.Path.{_≡_, refl, sym, ap, _∙_}
+use mathlib.Core.Path.{refl, sym}
 use mathlib.Core.List.{map}
 use Prim.Native.Nat.{_<_}
 use native.Mathlib.Omega.{arith}
@@ -10,9 +10,6 @@ use Rattle.question.proofs.TokenRun.{finish-some}
 use borrow.Author.Needs.{needs}
 use Rattle.question.proofs.condition.closed.Statement.{statement}
 use Rattle.question.proofs.condition.closed.Tie as tie
-use Rattle.question.proofs.condition.closed.Reads as reads
-use Rattle.question.proofs.condition.closed.Lts as lts
-use Rattle.question.proofs.condition.no_clause.Reads as no-clause-reads
 
 returns : tie.Need-returns
 returns c = record { meaning = rw (c .if1 .taken) refl; fewTokens = omega arith }

@@ -1,19 +1,12 @@
-use Rattle.question.specs.Reader.{andThen, finish}
+use Rattle.question.specs.Reader.{andThen, finish, conditionAt}
 use native.Mathlib.Omega.{arith}
 use mathlib.Core.Path.{sym, ap, _∙_}
-use Rattle.question.specs.Reader.{conditionAt}
 use Rattle.question.specs.Pieces.{byteOf}
 use Rattle.question.proofs.Steps.{on-good, on-bad}
 use Rattle.question.proofs.FieldLaws.{is-within}
 use borrow.Author.Needs.{needs}
 use Rattle.question.proofs.condition.condition_at.Statement.{statement}
 use Rattle.question.proofs.condition.condition_at.Tie as tie
-use Rattle.question.proofs.condition.condition_at.Reads as reads
-use Rattle.question.proofs.condition.condition_at.Lts as lts
-use Rattle.question.proofs.condition.close.Reads as close-reads
-use Rattle.question.proofs.condition.no_clause.Reads as no-clause-reads
-use Rattle.question.proofs.condition.tokens_at.Reads as tokens-at-reads
-use Rattle.question.proofs.fields.byte_at.Reads as byte-at-reads
 
 byte-at-requires : tie.Need-byte-at-requires
 byte-at-requires c κs = search needs

@@ -1,4 +1,4 @@
-use Rattle.question.proofs.Loops.{going-start}
+use Rattle.question.proofs.Loops.{going-start, going-bad, going-end}
 use mathlib.Core.List.{map}
 use lib.ListN.{take}
 use Rattle.question.specs.Held.{tokenOf}
@@ -8,15 +8,9 @@ use mathlib.Core.Path.{_≡_, sym, ap, _∙_, refl}
 use Prim.Native.Nat.{_-_}
 use native.Mathlib.Omega.{arith}
 use Rattle.question.specs.Pieces.{wordOf}
-use Rattle.question.proofs.Loops.{going-bad, going-end}
 use Rattle.question.proofs.TokenRun.{TokenRun, this-token, run-on}
 use Rattle.question.proofs.condition.tokens_at.Statement.{statement}
 use Rattle.question.proofs.condition.tokens_at.Tie as tie
-use Rattle.question.proofs.condition.tokens_at.Reads as reads
-use Rattle.question.proofs.condition.tokens_at.Lts as lts
-use Rattle.question.proofs.token.compared_after.Reads as compared-after-reads
-use Rattle.question.proofs.token.height_after.Reads as height-after-reads
-use Rattle.question.proofs.token.token_at.Reads as token-at-reads
 
 abbrev Inv-loop : tie.InvT-loop
 Inv-loop s low high n p tokens₀ compared₀ height₀ next₀ i₀ tokens compared height next i = TokenRun s low high n p tokens compared height next i

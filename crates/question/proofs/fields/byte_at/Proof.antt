@@ -1,11 +1,8 @@
 use borrow.Author.Needs.{needs}
 use native.Mathlib.Omega.{arith}
-use denote.Ref.{now}
 use Rattle.question.proofs.FieldLaws.{short, below, above, within}
 use Rattle.question.proofs.fields.byte_at.Statement.{statement}
 use Rattle.question.proofs.fields.byte_at.Tie as tie
-use Rattle.question.proofs.fields.byte_at.Reads as reads
-use Rattle.question.proofs.fields.byte_at.Lts as lts
 
 returns : tie.Need-returns
 returns c = short _ _ _ _ _ (c .if1 .taken)

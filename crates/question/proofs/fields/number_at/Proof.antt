@@ -1,18 +1,14 @@
 use borrow.Author.Needs.{needs}
 use native.Mathlib.Omega.{arith}
-use mathlib.Core.Path.{_≡_, ap, _∙_}
+use mathlib.Core.Path.{_≡_}
 use mathlib.Core.Bool.{true, false}
 use lib.Signed.{ltZ}
 use mir.Facts.{toZ-ofZ}
 use mir.Val.{SFits}
 use mir.Syntax.{w32}
-use Rattle.question.specs.Reader.{found}
 use Rattle.question.proofs.FieldLaws.{int-short, int-low, int-high, int-right}
 use Rattle.question.proofs.fields.number_at.Statement.{statement}
 use Rattle.question.proofs.fields.number_at.Tie as tie
-use Rattle.question.proofs.fields.number_at.Reads as reads
-use Rattle.question.proofs.fields.number_at.Lts as lts
-use Rattle.ints.proofs.read_i32.Reads as read-i32-reads
 
 returns : tie.Need-returns
 returns c = int-short _ _ _ _ _ (omega arith)

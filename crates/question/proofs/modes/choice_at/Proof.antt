@@ -6,10 +6,6 @@ use Rattle.question.proofs.ModeLaws.{operands-then}
 use borrow.Author.Needs.{needs}
 use Rattle.question.proofs.modes.choice_at.Statement.{statement}
 use Rattle.question.proofs.modes.choice_at.Tie as tie
-use Rattle.question.proofs.modes.choice_at.Reads as reads
-use Rattle.question.proofs.modes.choice_at.Lts as lts
-use Rattle.question.proofs.modes.chosen.Reads as chosen-reads
-use Rattle.question.proofs.modes.operand_at.Reads as operand-at-reads
 
 operand-at-requires : tie.Need-operand-at-requires
 operand-at-requires c κs = search needs

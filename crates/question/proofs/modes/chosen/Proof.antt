@@ -1,13 +1,10 @@
-use mathlib.Core.Path.{sym, ap, _∙_}
+use mathlib.Core.Path.{sym, ap}
 use mir.Facts.{toZ-ofZ}
 use Rattle.question.specs.Pieces.{operandOf}
 use Rattle.question.proofs.Steps.{on-good, on-bad}
 use borrow.Author.Needs.{needs}
 use Rattle.question.proofs.modes.chosen.Statement.{statement}
 use Rattle.question.proofs.modes.chosen.Tie as tie
-use Rattle.question.proofs.modes.chosen.Reads as reads
-use Rattle.question.proofs.modes.chosen.Lts as lts
-use Rattle.question.proofs.modes.mode_of.Reads as mode-of-reads
 
 enum-known-o : tie.Need-enum-known-o
 enum-known-o c = search needs

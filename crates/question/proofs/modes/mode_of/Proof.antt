@@ -2,8 +2,6 @@ use borrow.Author.Tests.{ne-eqb}
 use mir.Facts.{toZ-ofZ}
 use Rattle.question.proofs.modes.mode_of.Statement.{statement}
 use Rattle.question.proofs.modes.mode_of.Tie as tie
-use Rattle.question.proofs.modes.mode_of.Reads as reads
-use Rattle.question.proofs.modes.mode_of.Lts as lts
 
 returns : tie.Need-returns
 returns c = simp (c .match .keys1)

@@ -1,17 +1,13 @@
 use borrow.Author.Needs.{needs}
-use mathlib.Core.Path.{_≡_, sym, ap, _∙_, refl}
+use mathlib.Core.Path.{sym, ap, _∙_, refl}
 use mathlib.Core.List.{[]}
 use Prim.Native.Nat.{_-_}
-use native.Mathlib.Omega.{arith}
 use Rattle.question.specs.Reader.{many, modeAt}
 use Rattle.question.specs.Held.{settingOf}
 use Rattle.question.specs.Pieces.{choiceOf}
 use Rattle.question.proofs.Loops.{Going, going-start, going-on, going-bad, going-end}
 use Rattle.question.proofs.modes.modes_at.Statement.{statement}
 use Rattle.question.proofs.modes.modes_at.Tie as tie
-use Rattle.question.proofs.modes.modes_at.Reads as reads
-use Rattle.question.proofs.modes.modes_at.Lts as lts
-use Rattle.question.proofs.modes.mode_at.Reads as mode-at-reads
 
 abbrev Inv-loop : tie.InvT-loop
 Inv-loop s low high n p settings₀ next₀ i₀ settings next i =

@@ -5,10 +5,6 @@ use Rattle.question.proofs.Steps.{on-good, on-bad}
 use borrow.Author.Needs.{needs}
 use Rattle.question.proofs.modes.operand_at.Statement.{statement}
 use Rattle.question.proofs.modes.operand_at.Tie as tie
-use Rattle.question.proofs.modes.operand_at.Reads as reads
-use Rattle.question.proofs.modes.operand_at.Lts as lts
-use Rattle.question.proofs.fields.byte_at.Reads as byte-at-reads
-use Rattle.question.proofs.fields.number_at.Reads as number-at-reads
 
 byte-at-requires : tie.Need-byte-at-requires
 byte-at-requires c κs = search needs

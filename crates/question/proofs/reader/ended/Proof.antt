@@ -4,9 +4,6 @@ use Rattle.question.specs.Reader.{ending}
 use borrow.Author.Needs.{needs}
 use Rattle.question.proofs.reader.ended.Statement.{statement}
 use Rattle.question.proofs.reader.ended.Tie as tie
-use Rattle.question.proofs.reader.ended.Reads as reads
-use Rattle.question.proofs.reader.ended.Lts as lts
-use Rattle.question.proofs.reader.refusal.Reads as refusal-reads
 
 refusal-requires : tie.Need-refusal-requires
 refusal-requires c κs = search needs

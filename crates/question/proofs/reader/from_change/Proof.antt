@@ -1,5 +1,5 @@
 use denote.Ref.{now}
-use mathlib.Core.Path.{refl, sym, ap, _∙_}
+use mathlib.Core.Path.{sym, ap, _∙_}
 use Rattle.question.specs.Reader.{fromChange}
 use Rattle.question.specs.Held.{questionOf}
 use Rattle.question.specs.Pieces.{deedBy}
@@ -9,11 +9,6 @@ use Rattle.question.proofs.Chain.{reads-as, change-field}
 use borrow.Author.Needs.{needs}
 use Rattle.question.proofs.reader.from_change.Statement.{statement}
 use Rattle.question.proofs.reader.from_change.Tie as tie
-use Rattle.question.proofs.reader.from_change.Reads as reads
-use Rattle.question.proofs.reader.from_change.Lts as lts
-use Rattle.question.proofs.change.change_at.Reads as change-at-reads
-use Rattle.question.proofs.reader.ended.Reads as ended-reads
-use Rattle.question.proofs.reader.refusal.Reads as refusal-reads
 
 change-at-requires : tie.Need-change-at-requires
 change-at-requires c κs = search needs

@@ -1,5 +1,4 @@
 use mathlib.Core.Path.{sym, ap, _∙_}
-use native.Mathlib.Omega.{arith}
 use Rattle.question.specs.Reader.{fromChanged}
 use Rattle.question.specs.Pieces.{byteOf}
 use Rattle.question.proofs.Steps.{then-good, on-bad}
@@ -8,11 +7,6 @@ use Rattle.question.proofs.Chain.{reads-as}
 use borrow.Author.Needs.{needs}
 use Rattle.question.proofs.reader.from_changed.Statement.{statement}
 use Rattle.question.proofs.reader.from_changed.Tie as tie
-use Rattle.question.proofs.reader.from_changed.Reads as reads
-use Rattle.question.proofs.reader.from_changed.Lts as lts
-use Rattle.question.proofs.fields.byte_at.Reads as byte-at-reads
-use Rattle.question.proofs.reader.from_widths.Reads as from-widths-reads
-use Rattle.question.proofs.reader.refusal.Reads as refusal-reads
 
 byte-at-requires : tie.Need-byte-at-requires
 byte-at-requires c κs = search needs

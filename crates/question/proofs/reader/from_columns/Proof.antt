@@ -1,4 +1,4 @@
-use mathlib.Core.Path.{refl, sym, ap, _∙_}
+use mathlib.Core.Path.{sym, ap, _∙_}
 use mathlib.Core.List.{[]}
 use denote.Ref.{now}
 use Rattle.question.specs.Reader.{fromColumns, many, columnAt}
@@ -10,11 +10,6 @@ use Rattle.question.proofs.Chain.{reads-as}
 use borrow.Author.Needs.{needs}
 use Rattle.question.proofs.reader.from_columns.Statement.{statement}
 use Rattle.question.proofs.reader.from_columns.Tie as tie
-use Rattle.question.proofs.reader.from_columns.Reads as reads
-use Rattle.question.proofs.reader.from_columns.Lts as lts
-use Rattle.question.proofs.columns.columns_at.Reads as columns-at-reads
-use Rattle.question.proofs.reader.from_visible.Reads as from-visible-reads
-use Rattle.question.proofs.reader.refusal.Reads as refusal-reads
 
 columns-at-requires : tie.Need-columns-at-requires
 columns-at-requires c κs = search needs

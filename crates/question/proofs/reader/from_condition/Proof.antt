@@ -1,4 +1,4 @@
-use mathlib.Core.Path.{refl, sym, ap, _∙_}
+use mathlib.Core.Path.{sym, ap, _∙_}
 use denote.Ref.{now}
 use Rattle.question.specs.Reader.{fromCondition, conditionAt}
 use Rattle.question.specs.Pieces.{clauseBy}
@@ -8,11 +8,6 @@ use Rattle.question.proofs.Chain.{reads-as}
 use borrow.Author.Needs.{needs}
 use Rattle.question.proofs.reader.from_condition.Statement.{statement}
 use Rattle.question.proofs.reader.from_condition.Tie as tie
-use Rattle.question.proofs.reader.from_condition.Reads as reads
-use Rattle.question.proofs.reader.from_condition.Lts as lts
-use Rattle.question.proofs.condition.condition_at.Reads as condition-at-reads
-use Rattle.question.proofs.reader.from_change.Reads as from-change-reads
-use Rattle.question.proofs.reader.refusal.Reads as refusal-reads
 
 condition-at-requires : tie.Need-condition-at-requires
 condition-at-requires c κs = search needs

@@ -1,18 +1,11 @@
 use mathlib.Core.Path.{sym, ap, _∙_}
-use native.Mathlib.Omega.{arith}
 use Rattle.question.specs.Reader.{fromKind}
 use Rattle.question.specs.Pieces.{byteOf}
 use Rattle.question.proofs.Steps.{then-good, on-bad}
-use Rattle.question.proofs.FieldLaws.{is-within}
 use Rattle.question.proofs.Chain.{reads-as}
 use borrow.Author.Needs.{needs}
 use Rattle.question.proofs.reader.from_kind.Statement.{statement}
 use Rattle.question.proofs.reader.from_kind.Tie as tie
-use Rattle.question.proofs.reader.from_kind.Reads as reads
-use Rattle.question.proofs.reader.from_kind.Lts as lts
-use Rattle.question.proofs.fields.byte_at.Reads as byte-at-reads
-use Rattle.question.proofs.reader.from_changed.Reads as from-changed-reads
-use Rattle.question.proofs.reader.refusal.Reads as refusal-reads
 
 byte-at-requires : tie.Need-byte-at-requires
 byte-at-requires c κs = search needs

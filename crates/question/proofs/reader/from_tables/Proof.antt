@@ -8,11 +8,6 @@ use Rattle.question.proofs.Chain.{reads-as}
 use borrow.Author.Needs.{needs}
 use Rattle.question.proofs.reader.from_tables.Statement.{statement}
 use Rattle.question.proofs.reader.from_tables.Tie as tie
-use Rattle.question.proofs.reader.from_tables.Reads as reads
-use Rattle.question.proofs.reader.from_tables.Lts as lts
-use Rattle.question.proofs.fields.byte_at.Reads as byte-at-reads
-use Rattle.question.proofs.reader.from_kind.Reads as from-kind-reads
-use Rattle.question.proofs.reader.refusal.Reads as refusal-reads
 
 byte-at-requires : tie.Need-byte-at-requires
 byte-at-requires c κs = search needs

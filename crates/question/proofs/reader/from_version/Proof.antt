@@ -4,10 +4,6 @@ use Rattle.question.specs.Reader.{fromVersion}
 use borrow.Author.Needs.{needs}
 use Rattle.question.proofs.reader.from_version.Statement.{statement}
 use Rattle.question.proofs.reader.from_version.Tie as tie
-use Rattle.question.proofs.reader.from_version.Reads as reads
-use Rattle.question.proofs.reader.from_version.Lts as lts
-use Rattle.question.proofs.reader.from_tables.Reads as from-tables-reads
-use Rattle.question.proofs.reader.refusal.Reads as refusal-reads
 
 refusal-requires : tie.Need-refusal-requires
 refusal-requires c κs = search needs

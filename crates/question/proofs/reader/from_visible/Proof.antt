@@ -3,11 +3,6 @@ use Rattle.question.proofs.Chain.{reads-as, when-seen, when-unseen}
 use borrow.Author.Needs.{needs}
 use Rattle.question.proofs.reader.from_visible.Statement.{statement}
 use Rattle.question.proofs.reader.from_visible.Tie as tie
-use Rattle.question.proofs.reader.from_visible.Reads as reads
-use Rattle.question.proofs.reader.from_visible.Lts as lts
-use Rattle.question.proofs.columns.some_visible.Reads as some-visible-reads
-use Rattle.question.proofs.reader.from_condition.Reads as from-condition-reads
-use Rattle.question.proofs.reader.refusal.Reads as refusal-reads
 
 some-visible-requires : tie.Need-some-visible-requires
 some-visible-requires c κs = search needs

@@ -1,5 +1,5 @@
 use Prim.Native.Nat.{ℕ}
-use mathlib.Core.Path.{refl, sym, ap, _∙_}
+use mathlib.Core.Path.{sym, ap, _∙_}
 use mathlib.Core.List.{map-id}
 use denote.Ref.{now}
 use lib.ListN.{take}
@@ -13,12 +13,6 @@ use Rattle.question.proofs.Chain.{reads-as}
 use borrow.Author.Needs.{needs}
 use Rattle.question.proofs.reader.from_widths.Statement.{statement}
 use Rattle.question.proofs.reader.from_widths.Tie as tie
-use Rattle.question.proofs.reader.from_widths.Reads as reads
-use Rattle.question.proofs.reader.from_widths.Lts as lts
-use Rattle.question.proofs.reader.from_columns.Reads as from-columns-reads
-use Rattle.question.proofs.reader.refusal.Reads as refusal-reads
-use Rattle.question.proofs.widths.shape_of.Reads as shape-of-reads
-use Rattle.question.proofs.widths.widths_at.Reads as widths-at-reads
 
 widths-at-requires : tie.Need-widths-at-requires
 widths-at-requires c κs = search needs

@@ -1,22 +1,17 @@
-use Rattle.question.specs.Reader.{rowAt}
-use lib.ListN.{take, length}
+use Rattle.question.specs.Reader.{rowAt, many, valueAt}
+use lib.ListN.{take}
 use mir.Facts.{toZ-ofZ}
-use mathlib.Core.List.{map-id}
+use mathlib.Core.List.{map-id, [], map}
 use Rattle.question.proofs.RowRun.{ranges-length, this-value}
 use borrow.Author.Needs.{needs}
 use mathlib.Core.Path.{_≡_, sym, ap, _∙_, refl}
-use mathlib.Core.List.{[], map}
 use Prim.Native.Nat.{_-_}
 use native.Mathlib.Omega.{arith}
 use lib.IntN.{ℤ}
-use Rattle.question.specs.Reader.{many, valueAt}
 use Rattle.question.specs.Pieces.{numberOf, rangesAt}
 use Rattle.question.proofs.Loops.{Going, going-start, going-on, going-bad, going-end}
 use Rattle.question.proofs.rows.row_at.Statement.{statement}
 use Rattle.question.proofs.rows.row_at.Tie as tie
-use Rattle.question.proofs.rows.row_at.Reads as reads
-use Rattle.question.proofs.rows.row_at.Lts as lts
-use Rattle.question.proofs.fields.number_at.Reads as number-at-reads
 
 abbrev Inv-loop : tie.InvT-loop
 Inv-loop s first width p columns values₀ next₀ i₀ values next i =

@@ -1,18 +1,14 @@
 use Rattle.question.specs.declared.types.Answer.{Answer}
 use borrow.Author.Needs.{needs}
-use mathlib.Core.Path.{_≡_, sym, ap, _∙_, refl}
+use mathlib.Core.Path.{sym, ap, _∙_, refl}
 use mathlib.Core.List.{[]}
 use Prim.Native.Nat.{_-_}
-use native.Mathlib.Omega.{arith}
 use Rattle.question.specs.Reader.{many, rowAt}
 use Rattle.question.specs.Held.{rowOf}
 use Rattle.question.specs.Pieces.{lineBy, rangesAt}
 use Rattle.question.proofs.Loops.{Going, going-start, going-on, going-bad, going-end}
 use Rattle.question.proofs.rows.rows_at.Statement.{statement}
 use Rattle.question.proofs.rows.rows_at.Tie as tie
-use Rattle.question.proofs.rows.rows_at.Reads as reads
-use Rattle.question.proofs.rows.rows_at.Lts as lts
-use Rattle.question.proofs.rows.row_at.Reads as row-at-reads
 
 abbrev Inv-loop : tie.InvT-loop
 Inv-loop s columns first width n p rows₀ next₀ i₀ rows next i =

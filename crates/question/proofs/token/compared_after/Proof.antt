@@ -5,8 +5,6 @@ use Rattle.question.specs.declared.types.Kind.{Kind}
 use borrow.Author.Needs.{needs}
 use Rattle.question.proofs.token.compared_after.Statement.{statement}
 use Rattle.question.proofs.token.compared_after.Tie as tie
-use Rattle.question.proofs.token.compared_after.Reads as reads
-use Rattle.question.proofs.token.compared_after.Lts as lts
 
 enum-told : tie.Need-enum-told
 enum-told c = search needs

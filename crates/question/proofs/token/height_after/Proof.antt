@@ -5,9 +5,6 @@ use Rattle.question.specs.declared.types.Kind.{Kind}
 use borrow.Author.Needs.{needs}
 use Rattle.question.proofs.token.height_after.Statement.{statement}
 use Rattle.question.proofs.token.height_after.Tie as tie
-use Rattle.question.proofs.token.height_after.Reads as reads
-use Rattle.question.proofs.token.height_after.Lts as lts
-use Rattle.question.proofs.token.less_one.Reads as less-one-reads
 
 enum-told : tie.Need-enum-told
 enum-told c = search needs

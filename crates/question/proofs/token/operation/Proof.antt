@@ -1,8 +1,6 @@
 use borrow.Author.Tests.{le-leb, lt-leb}
 use Rattle.question.proofs.token.operation.Statement.{statement}
 use Rattle.question.proofs.token.operation.Tie as tie
-use Rattle.question.proofs.token.operation.Reads as reads
-use Rattle.question.proofs.token.operation.Lts as lts
 
 returns : tie.Need-returns
 returns c = simp (le-leb _ _ (c .if1 .taken))

@@ -1,14 +1,10 @@
 use borrow.Author.Needs.{needs}
 use borrow.Author.Tests.{ne-eqb}
-use mathlib.Core.Path.{_∙_}
 use denote.Ref.{now}
 use lib.ListN.{List·getD-eq-default}
 use Rattle.question.proofs.FieldLaws.{short}
 use Rattle.question.proofs.token.right_at.Statement.{statement}
 use Rattle.question.proofs.token.right_at.Tie as tie
-use Rattle.question.proofs.token.right_at.Reads as reads
-use Rattle.question.proofs.token.right_at.Lts as lts
-use Rattle.question.proofs.fields.byte_at.Reads as byte-at-reads
 
 returns : tie.Need-returns
 returns c = rw (List·getD-eq-default (now (c .before .before .args .s)) 0 (c .if1 .taken)) (short _ _ _ _ _ (c .if1 .taken))

@@ -4,10 +4,6 @@ use Rattle.question.proofs.Steps.{on-good, on-bad}
 use borrow.Author.Needs.{needs}
 use Rattle.question.proofs.token.token_at.Statement.{statement}
 use Rattle.question.proofs.token.token_at.Tie as tie
-use Rattle.question.proofs.token.token_at.Reads as reads
-use Rattle.question.proofs.token.token_at.Lts as lts
-use Rattle.question.proofs.token.word_at.Reads as word-at-reads
-use Rattle.question.proofs.fields.byte_at.Reads as byte-at-reads
 
 byte-at-requires : tie.Need-byte-at-requires
 byte-at-requires c κs = search needs

@@ -1,13 +1,8 @@
 use borrow.Author.Tests.{lt-ltb, le-ltb, ne-eqb}
-use mathlib.Core.Path.{sym, ap, _∙_}
 use Rattle.question.specs.Pieces.{wordWith}
 use borrow.Author.Needs.{needs}
 use Rattle.question.proofs.token.word_at.Statement.{statement}
 use Rattle.question.proofs.token.word_at.Tie as tie
-use Rattle.question.proofs.token.word_at.Reads as reads
-use Rattle.question.proofs.token.word_at.Lts as lts
-use Rattle.question.proofs.token.comparison_at.Reads as comparison-at-reads
-use Rattle.question.proofs.token.operation.Reads as operation-reads
 
 comparison-at-requires : tie.Need-comparison-at-requires
 comparison-at-requires c κs = search needs

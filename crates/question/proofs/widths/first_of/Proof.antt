@@ -1,6 +1,6 @@
 use Rattle.question.specs.Layout.{total}
 use Prim.Native.Nat.{_+_, _-_, _≤_}
-use mathlib.Core.Path.{_≡_, sym, ap, _∙_, refl}
+use mathlib.Core.Path.{_≡_, ap, _∙_, refl}
 use native.Mathlib.Omega.{arith}
 use lib.ListN.{take}
 use Rattle.question.specs.Layout as layout
@@ -8,8 +8,6 @@ use Rattle.question.proofs.Totals.{total-more, total-le}
 use borrow.Author.Needs.{needs}
 use Rattle.question.proofs.widths.first_of.Statement.{statement}
 use Rattle.question.proofs.widths.first_of.Tie as tie
-use Rattle.question.proofs.widths.first_of.Reads as reads
-use Rattle.question.proofs.widths.first_of.Lts as lts
 
 abbrev Inv-loop : tie.InvT-loop
 Inv-loop n total t widths sum₀ i₀ sum i = (i ≤ t) × (sum ≡ layout.total (take i widths))

@@ -6,9 +6,6 @@ use Rattle.question.proofs.Totals.{inside}
 use borrow.Author.Needs.{needs}
 use Rattle.question.proofs.widths.shape_of.Statement.{statement}
 use Rattle.question.proofs.widths.shape_of.Tie as tie
-use Rattle.question.proofs.widths.shape_of.Reads as reads
-use Rattle.question.proofs.widths.shape_of.Lts as lts
-use Rattle.question.proofs.widths.first_of.Reads as first-of-reads
 
 first-of-requires : tie.Need-first-of-requires
 first-of-requires c κs = search needs

@@ -1,5 +1,5 @@
 use Rattle.question.specs.Layout.{total}
-use mathlib.Core.Path.{_≡_, sym, ap, _∙_, refl}
+use mathlib.Core.Path.{sym, ap, _∙_, refl}
 use Prim.Native.Nat.{_-_}
 use native.Mathlib.Omega.{arith}
 use Rattle.question.specs.Pieces.{byteOf}
@@ -8,9 +8,6 @@ use Rattle.question.proofs.Totals.{WidthRun, this-width, width-on, coun
 use borrow.Author.Needs.{needs}
 use Rattle.question.proofs.widths.widths_at.Statement.{statement}
 use Rattle.question.proofs.widths.widths_at.Tie as tie
-use Rattle.question.proofs.widths.widths_at.Reads as reads
-use Rattle.question.proofs.widths.widths_at.Lts as lts
-use Rattle.question.proofs.fields.byte_at.Reads as byte-at-reads
 
 abbrev Inv-loop : tie.InvT-loop
 Inv-loop s n p widths₀ total₀ next₀ i₀ widths total next i = WidthRun s n p widths total next i
