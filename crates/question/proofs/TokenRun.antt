@@ -7,6 +7,7 @@ use native.Mathlib.Omega.{arith}
 use lib.Dec.{ltb, leb, eqb}
 use lib.ListN.{length, take, set, getD}
 use Rattle.meaning.specs.Condition as C
+use Rattle.meaning.specs.Limits.{mostTokens}
 use Rattle.question.specs.Reader.{Outcome, bad, At, found, andThen, many, byte, tokenAt, comparisons, height, counted, after, finish}
 use Rattle.question.specs.Held.{tokenOf}
 use Rattle.question.specs.Pieces.{tokenWith, wordWith}
@@ -45,7 +46,7 @@ after-le h C.negate = omega arith
 
 -- i tokens were read, of n
 pub record TokenRun (s : List ℕ) (low high n p : ℕ) (tokens : List Token) (compared tall next i : ℕ) : Type 0 where
-  pub going : Going (tokenAt s low high) tokenOf 16 n (many (tokenAt s low high) n [] p) tokens i next
+  pub going : Going (tokenAt s low high) tokenOf mostTokens n (many (tokenAt s low high) n [] p) tokens i next
   pub counts : compared ≡ comparisons (map tokenOf (take i tokens))
   pub stands : tall ≡ height (map tokenOf (take i tokens))
   pub few : compared ≤ i
@@ -59,7 +60,7 @@ module _ (s : List ℕ) (low high n p : ℕ) (tokens : List Token) (compared tal
       ∙ ap (λ h. tokenWith s low high (comparisons (map tokenOf (take i tokens))) h next) (run .stands)
       ∙ with-counts s low high (map tokenOf (take i tokens)) next
 
-  pub run-on : (t : Token) (q : ℕ) → n ≤ 16 → i < n → found (tokenOf t) q ≡ tokenWith s low high compared tall next
+  pub run-on : (t : Token) (q : ℕ) → n ≤ mostTokens → i < n → found (tokenOf t) q ≡ tokenWith s low high compared tall next
       → TokenRun s low high n p (set tokens i t) (counted compared (tokenOf t)) (after tall (tokenOf t)) q (i + 1)
   run-on t q fit l e =
       let inside : i < length tokens = omega (arith, run .going .sized) in

@@ -7,6 +7,7 @@ use native.Mathlib.Numerals.{add-one}
 use lib.ListN.{length, take, getD, set}
 use lib.Seq.{take-suc, take-suc-set, getD-set-same, getD-set-other}
 use borrow.Author.Count.{below-more}
+use Rattle.meaning.specs.Limits.{mostTables, mostColumns}
 use Rattle.question.specs.Layout.{total}
 use Rattle.question.specs.Reader.{found, many, byte, widthAt}
 use Rattle.question.specs.Shapes.{Counted}
@@ -32,23 +33,23 @@ total-le (w ∷ ws) (suc i) (suc n) h = omega (arith, total-le ws i n (omega ari
 
 -- i widths were read, of n
 pub record WidthRun (s : List ℕ) (n p : ℕ) (widths : List ℕ) (sum next i : ℕ) : Type 0 where
-  pub going : Going (widthAt s) (λ (w : ℕ). w) 4 n (many (widthAt s) n [] p) widths i next
+  pub going : Going (widthAt s) (λ (w : ℕ). w) mostTables n (many (widthAt s) n [] p) widths i next
   pub sums : sum ≡ total (take i widths)
-  pub small : sum ≤ 8
+  pub small : sum ≤ mostColumns
   pub each : (j : ℕ) → j < i → 1 ≤ getD widths j 0
 
 module _ (s : List ℕ) (n p : ℕ) (widths : List ℕ) (sum next i : ℕ) (run : WidthRun s n p widths sum next i) where
   -- the field that the code reads as a width
-  pub this-width : byte s 4 1 (9 - sum) next ≡ widthAt s (map (λ (w : ℕ). w) (take i widths)) next
+  pub this-width : byte s 4 1 (suc mostColumns - sum) next ≡ widthAt s (map (λ (w : ℕ). w) (take i widths)) next
   this-width =
       let e : total (map (λ (w : ℕ). w) (take i widths)) ≡ sum = ap total (map-id (take i widths)) ∙ sym (run .sums) in
-      let k : 9 - sum ≡ suc (8 - total (map (λ (w : ℕ). w) (take i widths))) = omega (arith, e, run .small) in
+      let k : suc mostColumns - sum ≡ suc (mostColumns - total (map (λ (w : ℕ). w) (take i widths))) = omega (arith, e, run .small) in
       ap (λ h. byte s 4 1 h next) k
 
-  pub width-on : (w q : ℕ) → n ≤ 4 → i < n → found w q ≡ byte s 4 1 (9 - sum) next → WidthRun s n p (set widths i w) (sum + w) q (i + 1)
+  pub width-on : (w q : ℕ) → n ≤ mostTables → i < n → found w q ≡ byte s 4 1 (suc mostColumns - sum) next → WidthRun s n p (set widths i w) (sum + w) q (i + 1)
   width-on w q fit l e =
       let inside : i < length widths = omega (arith, run .going .sized) in
-      let ok = is-within s 4 1 (9 - sum) next w q e in
+      let ok = is-within s 4 1 (suc mostColumns - sum) next w q e in
       record {
         going = going-on _ _ _ _ _ _ _ _ (run .going) l w q fit (e ∙ this-width);
         sums = ap (λ k. k + w) (run .sums) ∙ sym (total-set widths i w inside);
@@ -59,7 +60,7 @@ module _ (s : List ℕ) (n p : ℕ) (widths : List ℕ) (sum next i : ℕ) (run 
             (rw (getD-set-same widths i w 0 inside) (ok .0));
       }
 
-  pub counted : n ≤ 4 → n ≤ i → Counted n widths sum
+  pub counted : n ≤ mostTables → n ≤ i → Counted n widths sum
   counted fit l =
       let e : i ≡ n = omega (arith, run .going .within) in
       record {

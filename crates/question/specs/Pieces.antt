@@ -86,7 +86,7 @@ IfGood (Refused m p) P = Unit {0}
 pub record TokensRead (n : ℕ) (r : Tokens) (o : Outcome (At C.Condition)) : Type 0 where
   pub meaning : listOf tokenOf (r .answer) n (r .tokens) (r .next) ≡ o
   pub stand : IfGood (r .answer) (r .height ≡ height (map tokenOf (take n (r .tokens))))
-  pub sized : length (r .tokens) ≡ 16
+  pub sized : length (r .tokens) ≡ mostTokens
 
 -- ---- conditions
 

@@ -20,7 +20,7 @@ use Rattle.question.specs.declared.widths.Widths.{Widths}
 
 -- the first n widths: 1 to 4 tables, each with a column, and their sum, at most 8
 pub record Counted (n : ℕ) (widths : List ℕ) (total : ℕ) : Type 0 where
-  pub sized : length widths ≡ 4
+  pub sized : length widths ≡ mostTables
   pub few : n ≤ mostTables
   pub sum : total ≡ L.total (take n widths)
   pub small : total ≤ mostColumns
@@ -47,7 +47,7 @@ highAt s lo p =
 -- n columns were read, and o is what 01 gives for them
 pub record PillarsRead (n : ℕ) (r : Pillars) (o : Outcome (At (List L.Column))) : Type 0 where
   pub meaning : listOf columnOf (r .answer) n (r .columns) (r .next) ≡ o
-  pub sized : length (r .columns) ≡ 8
+  pub sized : length (r .columns) ≡ mostColumns
 
 -- is there one
 abbrev pub some : List ℕ → Bool

@@ -3,6 +3,7 @@ ghost use Prim.Native.Nat.{ℕ, _+_, _≤_};
 ghost use mathlib.Core.Path.{_≡_};
 ghost use lib.ListN.{length};
 ghost use Rattle.meaning.specs.Contents as meaning;
+ghost use Rattle.meaning.specs.Limits.{mostColumns, mostTokens, mostRows};
 ghost use Rattle.question.specs.Reader.{insertAt, deleteAt, modifyAt, changeAt, andThen, found, bad};
 ghost use Rattle.question.specs.Held.{conditionOf, rowOf, settingOf};
 ghost use Rattle.question.specs.Pieces.{DeedRead, listOf, clauseBy, rangesAt};
@@ -11,6 +12,9 @@ use crate::condition::always;
 use crate::condition::condition_at;
 use crate::fields::Byte;
 use crate::fields::byte_at;
+use crate::limits::COLUMNS;
+use crate::limits::PAST_ROWS;
+use crate::limits::ROWS;
 use crate::modes::Settings;
 use crate::modes::modes_at;
 use crate::rows::Lines;
@@ -38,10 +42,12 @@ fn no_deed(n: u8, at: usize) -> Deed
         answer: Answer::Refused(n, at),
         change: Change {
             verb: Verb::Insert,
-            rows: [Row { values: [0i32; 8] }; 4],
+            rows: [Row {
+                values: [0i32; COLUMNS],
+            }; ROWS],
             count: 0,
             condition: always(),
-            settings: [Setting { mode: Mode::Keep }; 8],
+            settings: [Setting { mode: Mode::Keep }; COLUMNS],
         },
         next: at,
     }
@@ -49,7 +55,7 @@ fn no_deed(n: u8, at: usize) -> Deed
 
 // An insert of the first n rows that were read.
 fn inserted(n: usize, lines: Lines) -> Deed
-    requires { ⌜ n ≤ 4 ⌝ }
+    requires { ⌜ n ≤ mostRows ⌝ }
     ensures { λ r. ⌜ ((width : ℕ) → DeedRead width r (andThen (listOf (rowOf width) (lines .answer) n (lines .rows) (lines .next)) (λ rs q. found (meaning.insert rs) q))) ⌝ }
 {
     let answer = lines.answer;
@@ -62,7 +68,7 @@ fn inserted(n: usize, lines: Lines) -> Deed
                 rows: rows,
                 count: n,
                 condition: always(),
-                settings: [Setting { mode: Mode::Keep }; 8],
+                settings: [Setting { mode: Mode::Keep }; COLUMNS],
             },
             next: lines.next,
         },
@@ -70,12 +76,12 @@ fn inserted(n: usize, lines: Lines) -> Deed
     }
 }
 
-fn insert_at(s: &[u8], columns: [Column; 8], first: usize, width: usize, p: usize) -> Deed
-    requires { ⌜ first + width ≤ 8 ⌝ }
-    requires { ⌜ length columns ≡ 8 ⌝ }
+fn insert_at(s: &[u8], columns: [Column; COLUMNS], first: usize, width: usize, p: usize) -> Deed
+    requires { ⌜ first + width ≤ mostColumns ⌝ }
+    requires { ⌜ length columns ≡ mostColumns ⌝ }
     ensures { λ r. ⌜ DeedRead width r (insertAt (now (s .entry)) (rangesAt columns first width) p) ⌝ }
 {
-    let b = byte_at(s, 4, 0, 5, p);
+    let b = byte_at(s, 4, 0, PAST_ROWS, p);
     match b {
         Byte::Is(n, q) => {
             let count = n as usize;
@@ -96,10 +102,12 @@ fn delete_at(s: &[u8], low: usize, high: usize, p: usize) -> Deed
             answer: Answer::Good,
             change: Change {
                 verb: Verb::Delete,
-                rows: [Row { values: [0i32; 8] }; 4],
+                rows: [Row {
+                    values: [0i32; COLUMNS],
+                }; ROWS],
                 count: 0,
                 condition: condition,
-                settings: [Setting { mode: Mode::Keep }; 8],
+                settings: [Setting { mode: Mode::Keep }; COLUMNS],
             },
             next: clause.next,
         },
@@ -109,7 +117,7 @@ fn delete_at(s: &[u8], low: usize, high: usize, p: usize) -> Deed
 
 // A modify by a condition and the first n settings that were read.
 fn modified(condition: Condition, n: usize, read: Settings) -> Deed
-    requires { ⌜ condition .count ≤ 16 ⌝ }
+    requires { ⌜ condition .count ≤ mostTokens ⌝ }
     ensures { λ r. ⌜ DeedRead n r (andThen (listOf settingOf (read .answer) n (read .settings) (read .next)) (λ ms q. found (meaning.modify (conditionOf condition) ms) q)) ⌝ }
 {
     let answer = read.answer;
@@ -119,7 +127,9 @@ fn modified(condition: Condition, n: usize, read: Settings) -> Deed
             answer: Answer::Good,
             change: Change {
                 verb: Verb::Modify,
-                rows: [Row { values: [0i32; 8] }; 4],
+                rows: [Row {
+                    values: [0i32; COLUMNS],
+                }; ROWS],
                 count: 0,
                 condition: condition,
                 settings: settings,
@@ -131,7 +141,7 @@ fn modified(condition: Condition, n: usize, read: Settings) -> Deed
 }
 
 fn modify_at(s: &[u8], first: usize, width: usize, p: usize) -> Deed
-    requires { ⌜ first + width ≤ 8 ⌝ }
+    requires { ⌜ first + width ≤ mostColumns ⌝ }
     ensures { λ r. ⌜ DeedRead width r (modifyAt (now (s .entry)) first width p) ⌝ }
 {
     let high = first + width;
@@ -152,13 +162,13 @@ fn modify_at(s: &[u8], first: usize, width: usize, p: usize) -> Deed
 pub fn change_at(
     s: &[u8],
     kind: u8,
-    columns: [Column; 8],
+    columns: [Column; COLUMNS],
     first: usize,
     width: usize,
     p: usize,
 ) -> Deed
-    requires { ⌜ first + width ≤ 8 ⌝ }
-    requires { ⌜ length columns ≡ 8 ⌝ }
+    requires { ⌜ first + width ≤ mostColumns ⌝ }
+    requires { ⌜ length columns ≡ mostColumns ⌝ }
     ensures { λ r. ⌜ DeedRead width r (changeAt (now (s .entry)) kind first (rangesAt columns first width) p) ⌝ }
 {
     match kind {

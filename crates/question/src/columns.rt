@@ -3,6 +3,7 @@ ghost use Prim.Native.Nat.{ℕ, _≤_, _<_};
 ghost use mathlib.Core.Path.{_≡_};
 ghost use mathlib.Core.List.{[], map};
 ghost use lib.ListN.{length, take};
+ghost use Rattle.meaning.specs.Limits.{mostColumns};
 ghost use Rattle.question.specs.Layout.{visibleFrom};
 ghost use Rattle.question.specs.Reader.{columnAt, many};
 ghost use Rattle.question.specs.Held.{columnOf};
@@ -11,6 +12,7 @@ use crate::fields::Byte;
 use crate::fields::Number;
 use crate::fields::byte_at;
 use crate::fields::number_at;
+use crate::limits::COLUMNS;
 use crate::types::Answer;
 use crate::types::Column;
 
@@ -57,19 +59,19 @@ fn column_at(s: &[u8], p: usize) -> Pillar
 // Columns and the next offset, or a refusal.
 pub struct Pillars {
     pub answer: Answer,
-    pub columns: [Column; 8],
+    pub columns: [Column; COLUMNS],
     pub next: usize,
 }
 
 pub fn columns_at(s: &[u8], n: usize, p: usize) -> Pillars
-    requires { ⌜ n ≤ 8 ⌝ }
+    requires { ⌜ n ≤ mostColumns ⌝ }
     ensures { λ r. ⌜ PillarsRead n r (many (λ cs q. columnAt (now (s .entry)) q) n [] p) ⌝ }
 {
     let mut columns = [Column {
         lo: 0,
         hi: 0,
         visible: false,
-    }; 8];
+    }; COLUMNS];
     let mut next = p;
     let mut i = 0;
     while i < n {
@@ -97,9 +99,9 @@ pub fn columns_at(s: &[u8], n: usize, p: usize) -> Pillars
 }
 
 // Is one of the first n columns visible?
-pub fn some_visible(columns: [Column; 8], n: usize) -> bool
-    requires { ⌜ n ≤ 8 ⌝ }
-    requires { ⌜ length columns ≡ 8 ⌝ }
+pub fn some_visible(columns: [Column; COLUMNS], n: usize) -> bool
+    requires { ⌜ n ≤ mostColumns ⌝ }
+    requires { ⌜ length columns ≡ mostColumns ⌝ }
     ensures { λ r. ⌜ r ≡ some (visibleFrom 0 (map columnOf (take n columns))) ⌝ }
 {
     let mut i = 0;

@@ -3,12 +3,15 @@ ghost use mathlib.Core.Path.{_≡_};
 ghost use Prim.Native.Nat.{_≤_};
 ghost use mathlib.Core.List.{[], map};
 ghost use lib.ListN.{length, take};
+ghost use Rattle.meaning.specs.Limits.{mostTokens};
 ghost use Rattle.question.specs.Reader as reader;
 ghost use Rattle.question.specs.Reader.{conditionAt, tokenAt, many, finish, bad, andThen};
 ghost use Rattle.question.specs.Held.{tokenOf};
 ghost use Rattle.question.specs.Pieces.{TokensRead, ClauseRead, IfGood, listOf};
 use crate::fields::Byte;
 use crate::fields::byte_at;
+use crate::limits::PAST_TOKENS;
+use crate::limits::TOKENS;
 use crate::token::Word;
 use crate::token::compared_after;
 use crate::token::height_after;
@@ -21,16 +24,16 @@ use crate::types::Token;
 // Tokens that were read: where the answer is good, the tokens, how many values stand after them, and the next offset.
 pub struct Tokens {
     pub answer: Answer,
-    pub tokens: [Token; 16],
+    pub tokens: [Token; TOKENS],
     pub height: usize,
     pub next: usize,
 }
 
 fn tokens_at(s: &[u8], low: usize, high: usize, n: usize, p: usize) -> Tokens
-    requires { ⌜ n ≤ 16 ⌝ }
+    requires { ⌜ n ≤ mostTokens ⌝ }
     ensures { λ r. ⌜ TokensRead n r (many (tokenAt (now (s .entry)) low high) n [] p) ⌝ }
 {
-    let mut tokens = [Token { kind: Kind::Both }; 16];
+    let mut tokens = [Token { kind: Kind::Both }; TOKENS];
     let mut compared = 0;
     let mut height = 0;
     let mut next = p;
@@ -75,7 +78,7 @@ pub fn always() -> Condition
     ensures { λ r. ⌜ r .count ≡ 0 ⌝ }
 {
     Condition {
-        tokens: [Token { kind: Kind::Both }; 16],
+        tokens: [Token { kind: Kind::Both }; TOKENS],
         count: 0,
     }
 }
@@ -91,8 +94,8 @@ fn no_clause(n: u8, at: usize) -> Clause
 }
 
 // After the last of n tokens: a nonempty condition must end with one value.
-fn closed(tokens: [Token; 16], n: usize, height: usize, next: usize) -> Clause
-    requires { ⌜ (n ≤ 16) × (length tokens ≡ 16) × (height ≡ reader.height (map tokenOf (take n tokens))) ⌝ }
+fn closed(tokens: [Token; TOKENS], n: usize, height: usize, next: usize) -> Clause
+    requires { ⌜ (n ≤ mostTokens) × (length tokens ≡ mostTokens) × (height ≡ reader.height (map tokenOf (take n tokens))) ⌝ }
     ensures { λ r. ⌜ ClauseRead r (finish (map tokenOf (take n tokens)) next) ⌝ }
 {
     if n == 0 {
@@ -120,8 +123,8 @@ fn closed(tokens: [Token; 16], n: usize, height: usize, next: usize) -> Clause
 }
 
 fn close(n: usize, t: Tokens) -> Clause
-    requires { ⌜ n ≤ 16 ⌝ }
-    requires { ⌜ length (t .tokens) ≡ 16 ⌝ }
+    requires { ⌜ n ≤ mostTokens ⌝ }
+    requires { ⌜ length (t .tokens) ≡ mostTokens ⌝ }
     requires { ⌜ IfGood (t .answer) (t .height ≡ reader.height (map tokenOf (take n (t .tokens)))) ⌝ }
     ensures { λ r. ⌜ ClauseRead r (andThen (listOf tokenOf (t .answer) n (t .tokens) (t .next)) finish) ⌝ }
 {
@@ -136,7 +139,7 @@ fn close(n: usize, t: Tokens) -> Clause
 pub fn condition_at(s: &[u8], low: usize, high: usize, p: usize) -> Clause
     ensures { λ r. ⌜ ClauseRead r (conditionAt (now (s .entry)) low high p) ⌝ }
 {
-    let b = byte_at(s, 4, 0, 17, p);
+    let b = byte_at(s, 4, 0, PAST_TOKENS, p);
     match b {
         Byte::Is(n, q) => {
             let count = n as usize;

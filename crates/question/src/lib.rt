@@ -9,6 +9,7 @@ pub mod change;
 pub mod columns;
 pub mod condition;
 pub mod fields;
+pub mod limits;
 pub mod modes;
 pub mod reader;
 pub mod rows;

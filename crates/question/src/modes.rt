@@ -2,6 +2,7 @@
 ghost use Prim.Native.Nat.{_≤_};
 ghost use mathlib.Core.Path.{_≡_};
 ghost use mathlib.Core.List.{[]};
+ghost use Rattle.meaning.specs.Limits.{mostColumns};
 ghost use Rattle.question.specs.Reader.{modeAt, many, andThen};
 ghost use Rattle.question.specs.Held.{modeOf};
 ghost use Rattle.question.specs.Pieces.{operandOf, operandsAt, modeNamed, choiceOf, chosenBy, choiceAt, SettingsRead};
@@ -9,6 +10,7 @@ use crate::fields::Byte;
 use crate::fields::Number;
 use crate::fields::byte_at;
 use crate::fields::number_at;
+use crate::limits::COLUMNS;
 use crate::types::Answer;
 use crate::types::Mode;
 use crate::types::Setting;
@@ -97,15 +99,15 @@ fn mode_at(s: &[u8], low: usize, high: usize, p: usize) -> Choice
 // Settings and the next offset, or a refusal.
 pub struct Settings {
     pub answer: Answer,
-    pub settings: [Setting; 8],
+    pub settings: [Setting; COLUMNS],
     pub next: usize,
 }
 
 pub fn modes_at(s: &[u8], low: usize, high: usize, n: usize, p: usize) -> Settings
-    requires { ⌜ n ≤ 8 ⌝ }
+    requires { ⌜ n ≤ mostColumns ⌝ }
     ensures { λ r. ⌜ SettingsRead n r (many (λ ms q. modeAt (now (s .entry)) low high q) n [] p) ⌝ }
 {
-    let mut settings = [Setting { mode: Mode::Keep }; 8];
+    let mut settings = [Setting { mode: Mode::Keep }; COLUMNS];
     let mut next = p;
     let mut i = 0;
     while i < n {

@@ -3,6 +3,7 @@ ghost use Prim.Native.Nat.{_≤_, _<_};
 ghost use mathlib.Core.Path.{_≡_};
 ghost use mathlib.Core.List.{map};
 ghost use lib.ListN.{length, take};
+ghost use Rattle.meaning.specs.Limits.{mostTables, mostColumns, mostTokens};
 ghost use Rattle.question.specs.Reader.{bad, ending, fromChange, fromCondition, fromVisible, fromColumns, fromWidths, fromChanged, fromKind, fromTables, fromVersion};
 ghost use Rattle.question.specs.Held.{Reads, ShapeHeld, ChangeHeld, questionOf, widthsOf, columnOf, conditionOf};
 use crate::change::change_at;
@@ -12,6 +13,10 @@ use crate::condition::always;
 use crate::condition::condition_at;
 use crate::fields::Byte;
 use crate::fields::byte_at;
+use crate::limits::COLUMNS;
+use crate::limits::PAST_TABLES;
+use crate::limits::ROWS;
+use crate::limits::TABLES;
 use crate::types::Answer;
 use crate::types::Change;
 use crate::types::Column;
@@ -36,7 +41,7 @@ pub fn refusal(n: u8, at: usize) -> Reading
             shape: Shape {
                 tables: 0,
                 changed: 0,
-                widths: [0usize; 4],
+                widths: [0usize; TABLES],
                 first: 0,
                 width: 0,
                 total: 0,
@@ -45,14 +50,16 @@ pub fn refusal(n: u8, at: usize) -> Reading
                 lo: 0,
                 hi: 0,
                 visible: false,
-            }; 8],
+            }; COLUMNS],
             condition: always(),
             change: Change {
                 verb: Verb::Insert,
-                rows: [Row { values: [0i32; 8] }; 4],
+                rows: [Row {
+                    values: [0i32; COLUMNS],
+                }; ROWS],
                 count: 0,
                 condition: always(),
-                settings: [Setting { mode: Mode::Keep }; 8],
+                settings: [Setting { mode: Mode::Keep }; COLUMNS],
             },
         },
     }
@@ -62,13 +69,13 @@ pub fn refusal(n: u8, at: usize) -> Reading
 fn ended(
     s: &[u8],
     shape: Shape,
-    columns: [Column; 8],
+    columns: [Column; COLUMNS],
     condition: Condition,
     change: Change,
     p: usize,
 ) -> Reading
     requires { ⌜ ShapeHeld shape ⌝ }
-    requires { ⌜ condition .count ≤ 16 ⌝ }
+    requires { ⌜ condition .count ≤ mostTokens ⌝ }
     requires { ⌜ ChangeHeld change ⌝ }
     ensures { λ r. ⌜ Reads r (ending (now (s .entry)) (questionOf (record { shape = shape; columns = columns; condition = condition; change = change })) p) ⌝ }
 {
@@ -90,13 +97,13 @@ fn from_change(
     s: &[u8],
     kind: u8,
     shape: Shape,
-    columns: [Column; 8],
+    columns: [Column; COLUMNS],
     condition: Condition,
     p: usize,
 ) -> Reading
     requires { ⌜ ShapeHeld shape ⌝ }
-    requires { ⌜ length columns ≡ 8 ⌝ }
-    requires { ⌜ condition .count ≤ 16 ⌝ }
+    requires { ⌜ length columns ≡ mostColumns ⌝ }
+    requires { ⌜ condition .count ≤ mostTokens ⌝ }
     ensures { λ r. ⌜ Reads r (fromChange (now (s .entry)) kind (shape .changed) (widthsOf shape) (map columnOf (take (shape .total) columns)) (conditionOf condition) p) ⌝ }
 {
     let deed = change_at(s, kind, columns, shape.first, shape.width, p);
@@ -108,9 +115,9 @@ fn from_change(
     }
 }
 
-fn from_condition(s: &[u8], kind: u8, shape: Shape, columns: [Column; 8], p: usize) -> Reading
+fn from_condition(s: &[u8], kind: u8, shape: Shape, columns: [Column; COLUMNS], p: usize) -> Reading
     requires { ⌜ ShapeHeld shape ⌝ }
-    requires { ⌜ length columns ≡ 8 ⌝ }
+    requires { ⌜ length columns ≡ mostColumns ⌝ }
     ensures { λ r. ⌜ Reads r (fromCondition (now (s .entry)) kind (shape .changed) (widthsOf shape) (map columnOf (take (shape .total) columns)) p) ⌝ }
 {
     let clause = condition_at(s, 0, shape.total, p);
@@ -122,9 +129,9 @@ fn from_condition(s: &[u8], kind: u8, shape: Shape, columns: [Column; 8], p: usi
     }
 }
 
-fn from_visible(s: &[u8], kind: u8, shape: Shape, columns: [Column; 8], p: usize) -> Reading
+fn from_visible(s: &[u8], kind: u8, shape: Shape, columns: [Column; COLUMNS], p: usize) -> Reading
     requires { ⌜ ShapeHeld shape ⌝ }
-    requires { ⌜ length columns ≡ 8 ⌝ }
+    requires { ⌜ length columns ≡ mostColumns ⌝ }
     ensures { λ r. ⌜ Reads r (fromVisible (now (s .entry)) kind (shape .changed) (widthsOf shape) (map columnOf (take (shape .total) columns)) p) ⌝ }
 {
     if some_visible(columns, shape.total) {
@@ -148,7 +155,7 @@ fn from_columns(s: &[u8], kind: u8, shape: Shape, p: usize) -> Reading
 }
 
 fn from_widths(s: &[u8], tables: usize, kind: u8, changed: usize, p: usize) -> Reading
-    requires { ⌜ tables ≤ 4 ⌝ }
+    requires { ⌜ tables ≤ mostTables ⌝ }
     requires { ⌜ changed < tables ⌝ }
     ensures { λ r. ⌜ Reads r (fromWidths (now (s .entry)) tables kind changed p) ⌝ }
 {
@@ -165,7 +172,7 @@ fn from_widths(s: &[u8], tables: usize, kind: u8, changed: usize, p: usize) -> R
 }
 
 fn from_changed(s: &[u8], tables: usize, kind: u8, p: usize) -> Reading
-    requires { ⌜ tables ≤ 4 ⌝ }
+    requires { ⌜ tables ≤ mostTables ⌝ }
     ensures { λ r. ⌜ Reads r (fromChanged (now (s .entry)) tables kind p) ⌝ }
 {
     let b = byte_at(s, 4, 0, tables, p);
@@ -176,7 +183,7 @@ fn from_changed(s: &[u8], tables: usize, kind: u8, p: usize) -> Reading
 }
 
 fn from_kind(s: &[u8], tables: usize, p: usize) -> Reading
-    requires { ⌜ tables ≤ 4 ⌝ }
+    requires { ⌜ tables ≤ mostTables ⌝ }
     ensures { λ r. ⌜ Reads r (fromKind (now (s .entry)) tables p) ⌝ }
 {
     let b = byte_at(s, 4, 1, 4, p);
@@ -189,7 +196,7 @@ fn from_kind(s: &[u8], tables: usize, p: usize) -> Reading
 fn from_tables(s: &[u8], p: usize) -> Reading
     ensures { λ r. ⌜ Reads r (fromTables (now (s .entry)) p) ⌝ }
 {
-    let b = byte_at(s, 4, 1, 5, p);
+    let b = byte_at(s, 4, 1, PAST_TABLES, p);
     match b {
         Byte::Is(tables, q) => from_kind(s, tables as usize, q),
         Byte::Not(n, at) => refusal(n, at),

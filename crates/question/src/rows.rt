@@ -3,10 +3,13 @@ ghost use Prim.Native.Nat.{_+_, _≤_};
 ghost use mathlib.Core.Path.{_≡_};
 ghost use mathlib.Core.List.{[]};
 ghost use lib.ListN.{length};
+ghost use Rattle.meaning.specs.Limits.{mostColumns, mostRows};
 ghost use Rattle.question.specs.Reader.{rowAt, many};
 ghost use Rattle.question.specs.Pieces.{LineRead, LinesRead, rangesAt};
 use crate::fields::Number;
 use crate::fields::number_at;
+use crate::limits::COLUMNS;
+use crate::limits::ROWS;
 use crate::types::Answer;
 use crate::types::Column;
 use crate::types::Row;
@@ -18,12 +21,12 @@ pub struct Line {
     pub next: usize,
 }
 
-fn row_at(s: &[u8], columns: [Column; 8], first: usize, width: usize, p: usize) -> Line
-    requires { ⌜ first + width ≤ 8 ⌝ }
-    requires { ⌜ length columns ≡ 8 ⌝ }
+fn row_at(s: &[u8], columns: [Column; COLUMNS], first: usize, width: usize, p: usize) -> Line
+    requires { ⌜ first + width ≤ mostColumns ⌝ }
+    requires { ⌜ length columns ≡ mostColumns ⌝ }
     ensures { λ r. ⌜ LineRead width r (rowAt (now (s .entry)) (rangesAt columns first width) p) ⌝ }
 {
-    let mut values = [0i32; 8];
+    let mut values = [0i32; COLUMNS];
     let mut next = p;
     let mut i = 0;
     while i < width {
@@ -54,24 +57,26 @@ fn row_at(s: &[u8], columns: [Column; 8], first: usize, width: usize, p: usize) 
 // Rows and the next offset, or a refusal.
 pub struct Lines {
     pub answer: Answer,
-    pub rows: [Row; 4],
+    pub rows: [Row; ROWS],
     pub next: usize,
 }
 
 pub fn rows_at(
     s: &[u8],
-    columns: [Column; 8],
+    columns: [Column; COLUMNS],
     first: usize,
     width: usize,
     n: usize,
     p: usize,
 ) -> Lines
-    requires { ⌜ first + width ≤ 8 ⌝ }
-    requires { ⌜ length columns ≡ 8 ⌝ }
-    requires { ⌜ n ≤ 4 ⌝ }
+    requires { ⌜ first + width ≤ mostColumns ⌝ }
+    requires { ⌜ length columns ≡ mostColumns ⌝ }
+    requires { ⌜ n ≤ mostRows ⌝ }
     ensures { λ r. ⌜ LinesRead width n r (many (λ rs q. rowAt (now (s .entry)) (rangesAt columns first width) q) n [] p) ⌝ }
 {
-    let mut rows = [Row { values: [0i32; 8] }; 4];
+    let mut rows = [Row {
+        values: [0i32; COLUMNS],
+    }; ROWS];
     let mut next = p;
     let mut i = 0;
     while i < n {

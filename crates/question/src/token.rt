@@ -8,6 +8,7 @@ use crate::fields::Byte;
 use crate::fields::Number;
 use crate::fields::byte_at;
 use crate::fields::number_at;
+use crate::limits::COMPARISONS;
 use crate::types::Kind;
 use crate::types::Op;
 use crate::types::Side;
@@ -115,7 +116,7 @@ fn word_at(
 {
     match t {
         1 => {
-            if compared < 6 {
+            if compared < COMPARISONS {
                 comparison_at(s, low, high, q)
             } else {
                 Word::Not(4, p)

@@ -1,4 +1,8 @@
 // The declared types: a question as the product holds it. specs/Held says what the used fields mean.
+use crate::limits::COLUMNS;
+use crate::limits::ROWS;
+use crate::limits::TABLES;
+use crate::limits::TOKENS;
 
 // < ≤ = ≥ > ≠
 pub enum Op {
@@ -29,7 +33,7 @@ pub struct Token {
 
 // The first `count` tokens are the condition.
 pub struct Condition {
-    pub tokens: [Token; 16],
+    pub tokens: [Token; TOKENS],
     pub count: usize,
 }
 
@@ -52,7 +56,7 @@ pub struct Setting {
 
 // An inserted row: the first `width` values count.
 pub struct Row {
-    pub values: [i32; 8],
+    pub values: [i32; COLUMNS],
 }
 
 pub enum Verb {
@@ -64,17 +68,17 @@ pub enum Verb {
 // An insert uses the first `count` rows; a delete its condition; a modify its condition and the first `width` settings.
 pub struct Change {
     pub verb: Verb,
-    pub rows: [Row; 4],
+    pub rows: [Row; ROWS],
     pub count: usize,
     pub condition: Condition,
-    pub settings: [Setting; 8],
+    pub settings: [Setting; COLUMNS],
 }
 
 // The tables: how many, which one is changed, the columns of each; the changed table's first column and width; all columns.
 pub struct Shape {
     pub tables: usize,
     pub changed: usize,
-    pub widths: [usize; 4],
+    pub widths: [usize; TABLES],
     pub first: usize,
     pub width: usize,
     pub total: usize,
@@ -84,7 +88,7 @@ pub struct Shape {
 // `first + j` at j.
 pub struct Question {
     pub shape: Shape,
-    pub columns: [Column; 8],
+    pub columns: [Column; COLUMNS],
     pub condition: Condition,
     pub change: Change,
 }

@@ -3,33 +3,36 @@ ghost use Prim.Native.Nat.{_≤_, _<_};
 ghost use mathlib.Core.Path.{_≡_};
 ghost use mathlib.Core.List.{[]};
 ghost use lib.ListN.{length, take};
+ghost use Rattle.meaning.specs.Limits.{mostTables};
 ghost use Rattle.question.specs.Layout as layout;
 ghost use Rattle.question.specs.Reader.{widthAt, many};
 ghost use Rattle.question.specs.Shapes.{WidthsRead, Counted};
 ghost use Rattle.question.specs.Held.{ShapeHeld, widthsOf};
 use crate::fields::Byte;
 use crate::fields::byte_at;
+use crate::limits::PAST_COLUMNS;
+use crate::limits::TABLES;
 use crate::types::Answer;
 use crate::types::Shape;
 
 // Widths, their sum and the next offset, or a refusal.
 pub struct Widths {
     pub answer: Answer,
-    pub widths: [usize; 4],
+    pub widths: [usize; TABLES],
     pub total: usize,
     pub next: usize,
 }
 
 pub fn widths_at(s: &[u8], n: usize, p: usize) -> Widths
-    requires { ⌜ n ≤ 4 ⌝ }
+    requires { ⌜ n ≤ mostTables ⌝ }
     ensures { λ r. ⌜ WidthsRead n r (many (widthAt (now (s .entry))) n [] p) ⌝ }
 {
-    let mut widths = [0usize; 4];
+    let mut widths = [0usize; TABLES];
     let mut total = 0;
     let mut next = p;
     let mut i = 0;
     while i < n {
-        let b = byte_at(s, 4, 1, 9 - total, next);
+        let b = byte_at(s, 4, 1, PAST_COLUMNS - total, next);
         match b {
             Byte::Is(w, q) => {
                 let width = w as usize;
@@ -57,7 +60,7 @@ pub fn widths_at(s: &[u8], n: usize, p: usize) -> Widths
 }
 
 // How many columns the tables before table t have.
-fn first_of(widths: [usize; 4], n: usize, total: usize, t: usize) -> usize
+fn first_of(widths: [usize; TABLES], n: usize, total: usize, t: usize) -> usize
     requires { ⌜ Counted n widths total ⌝ }
     requires { ⌜ t ≤ n ⌝ }
     ensures { λ r. ⌜ r ≡ layout.total (take t widths) ⌝ }
@@ -71,7 +74,7 @@ fn first_of(widths: [usize; 4], n: usize, total: usize, t: usize) -> usize
     sum
 }
 
-pub fn shape_of(widths: [usize; 4], n: usize, total: usize, changed: usize) -> Shape
+pub fn shape_of(widths: [usize; TABLES], n: usize, total: usize, changed: usize) -> Shape
     requires { ⌜ Counted n widths total ⌝ }
     requires { ⌜ changed < n ⌝ }
     ensures { λ r. ⌜ ShapeHeld r ⌝ }

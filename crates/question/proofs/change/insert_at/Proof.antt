@@ -22,12 +22,12 @@ rows-at-requires : tie.Need-rows-at-requires
 rows-at-requires c κs =
     let b = c .before in
     let pre = b .before .before .before .before .pre in
-    (pre .0, (pre .1, omega (arith, is-within _ 4 0 5 _ _ _ (sym (ap byteOf (b .b .given .1)) ∙ b .before .before .byte-at .ensures) .1)))
+    (pre .0, (pre .1, omega (arith, is-within _ 4 _ _ _ _ _ (sym (ap byteOf (b .b .given .1)) ∙ b .before .before .byte-at .ensures) .1)))
 
 inserted-requires : tie.Need-inserted-requires
 inserted-requires c κs =
     let b = c .before .before in
-    omega (arith, is-within _ 4 0 5 _ _ _ (sym (ap byteOf (b .b .given .1)) ∙ b .before .before .byte-at .ensures) .1)
+    omega (arith, is-within _ 4 _ _ _ _ _ (sym (ap byteOf (b .b .given .1)) ∙ b .before .before .byte-at .ensures) .1)
 
 enum-known-b-2 : tie.Need-enum-known-b-2
 enum-known-b-2 c = search needs

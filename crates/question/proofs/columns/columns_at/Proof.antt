@@ -1,6 +1,7 @@
 use mathlib.Core.Path.{sym, ap, _∙_, refl}
 use mathlib.Core.List.{[]}
 use Prim.Native.Nat.{_-_}
+use Rattle.meaning.specs.Limits.{mostColumns}
 use Rattle.question.specs.Reader.{many, columnAt}
 use Rattle.question.specs.Held.{columnOf}
 use Rattle.question.specs.Shapes.{pillarOf}
@@ -11,13 +12,13 @@ use Rattle.question.proofs.columns.columns_at.Tie as tie
 
 abbrev Inv-loop : tie.InvT-loop
 Inv-loop s n p columns₀ next₀ i₀ columns next i =
-    Going (λ cs q. columnAt s q) columnOf 8 n (many (λ cs q. columnAt s q) n [] p) columns i next
+    Going (λ cs q. columnAt s q) columnOf mostColumns n (many (λ cs q. columnAt s q) n [] p) columns i next
 
 abbrev μ-loop : tie.MeasureT-loop
 μ-loop s n p columns₀ next₀ i₀ columns next i = n - i
 
 loop-holds : tie.Need-loop-holds Inv-loop μ-loop
-loop-holds c = going-start _ _ 8 _ _ _ refl
+loop-holds c = going-start _ _ mostColumns _ _ _ refl
 
 column-at-requires : tie.Need-column-at-requires Inv-loop μ-loop
 column-at-requires c κs = search needs

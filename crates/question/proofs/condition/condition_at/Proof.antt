@@ -20,12 +20,12 @@ cast-count c = search needs
 tokens-at-requires : tie.Need-tokens-at-requires
 tokens-at-requires c κs =
     let b = c .before in
-    omega (arith, is-within _ 4 0 17 _ _ _ (sym (ap byteOf (b .b .given .1)) ∙ b .before .before .byte-at .ensures) .1)
+    omega (arith, is-within _ 4 _ _ _ _ _ (sym (ap byteOf (b .b .given .1)) ∙ b .before .before .byte-at .ensures) .1)
 
 close-requires : tie.Need-close-requires
 close-requires c κs =
     let b = c .before .before in (
-      omega (arith, is-within _ 4 0 17 _ _ _ (sym (ap byteOf (b .b .given .1)) ∙ b .before .before .byte-at .ensures) .1),
+      omega (arith, is-within _ 4 _ _ _ _ _ (sym (ap byteOf (b .b .given .1)) ∙ b .before .before .byte-at .ensures) .1),
       (c .tokens-at .ensures .sized, c .tokens-at .ensures .stand),
     )
 

@@ -1,3 +1,4 @@
+use Rattle.meaning.specs.Limits.{mostTokens}
 use Rattle.question.proofs.Loops.{going-start, going-bad, going-end}
 use mathlib.Core.List.{map}
 use lib.ListN.{take}
@@ -19,7 +20,7 @@ abbrev μ-loop : tie.MeasureT-loop
 μ-loop s low high n p tokens₀ compared₀ height₀ next₀ i₀ tokens compared height next i = n - i
 
 loop-holds : tie.Need-loop-holds Inv-loop μ-loop
-loop-holds c = record { going = going-start _ _ 16 _ _ _ refl; counts = refl; stands = refl; few = omega arith; bounded = omega arith }
+loop-holds c = record { going = going-start _ _ mostTokens _ _ _ refl; counts = refl; stands = refl; few = omega arith; bounded = omega arith }
 
 token-at-requires : tie.Need-token-at-requires Inv-loop μ-loop
 token-at-requires c κs = search needs

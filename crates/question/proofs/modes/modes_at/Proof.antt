@@ -2,6 +2,7 @@ use borrow.Author.Needs.{needs}
 use mathlib.Core.Path.{sym, ap, _∙_, refl}
 use mathlib.Core.List.{[]}
 use Prim.Native.Nat.{_-_}
+use Rattle.meaning.specs.Limits.{mostColumns}
 use Rattle.question.specs.Reader.{many, modeAt}
 use Rattle.question.specs.Held.{settingOf}
 use Rattle.question.specs.Pieces.{choiceOf}
@@ -11,13 +12,13 @@ use Rattle.question.proofs.modes.modes_at.Tie as tie
 
 abbrev Inv-loop : tie.InvT-loop
 Inv-loop s low high n p settings₀ next₀ i₀ settings next i =
-    Going (λ ms q. modeAt s low high q) settingOf 8 n (many (λ ms q. modeAt s low high q) n [] p) settings i next
+    Going (λ ms q. modeAt s low high q) settingOf mostColumns n (many (λ ms q. modeAt s low high q) n [] p) settings i next
 
 abbrev μ-loop : tie.MeasureT-loop
 μ-loop s low high n p settings₀ next₀ i₀ settings next i = n - i
 
 loop-holds : tie.Need-loop-holds Inv-loop μ-loop
-loop-holds c = going-start _ _ 8 _ _ _ refl
+loop-holds c = going-start _ _ mostColumns _ _ _ refl
 
 mode-at-requires : tie.Need-mode-at-requires Inv-loop μ-loop
 mode-at-requires c κs = search needs

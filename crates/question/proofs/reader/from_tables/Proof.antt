@@ -21,7 +21,7 @@ cast-from-kind c = search needs
 from-kind-requires : tie.Need-from-kind-requires
 from-kind-requires c κs =
     let b = c .before in
-    omega (arith, is-within _ 4 1 5 _ _ _ (sym (ap byteOf (b .b .given .1)) ∙ b .before .before .byte-at .ensures) .1)
+    omega (arith, is-within _ 4 _ _ _ _ _ (sym (ap byteOf (b .b .given .1)) ∙ b .before .before .byte-at .ensures) .1)
 
 enum-known-b-2 : tie.Need-enum-known-b-2
 enum-known-b-2 c = search needs

@@ -1,3 +1,4 @@
+use Rattle.meaning.specs.Limits.{mostColumns}
 use Rattle.question.specs.Reader.{rowAt, many, valueAt}
 use lib.ListN.{take}
 use mir.Facts.{toZ-ofZ}
@@ -15,7 +16,7 @@ use Rattle.question.proofs.rows.row_at.Tie as tie
 
 abbrev Inv-loop : tie.InvT-loop
 Inv-loop s first width p columns values₀ next₀ i₀ values next i =
-    Going (valueAt s (rangesAt columns first width)) (λ (v : ℤ). v) 8 width (many (valueAt s (rangesAt columns first width)) width [] p) values i next
+    Going (valueAt s (rangesAt columns first width)) (λ (v : ℤ). v) mostColumns width (many (valueAt s (rangesAt columns first width)) width [] p) values i next
 
 abbrev μ-loop : tie.MeasureT-loop
 μ-loop s first width p columns values₀ next₀ i₀ values next i = width - i
@@ -35,7 +36,7 @@ field c =
     (omega (arith, l .loop .inv .sized, l .before .before .pre .0, inside)))
 
 loop-holds : tie.Need-loop-holds Inv-loop μ-loop
-loop-holds c = going-start _ _ 8 _ _ _ refl
+loop-holds c = going-start _ _ mostColumns _ _ _ refl
 
 add-c : tie.Need-add-c Inv-loop μ-loop
 add-c c = search needs

@@ -1,3 +1,4 @@
+use Rattle.meaning.specs.Limits.{mostRows}
 use Rattle.question.specs.declared.types.Answer.{Answer}
 use borrow.Author.Needs.{needs}
 use mathlib.Core.Path.{sym, ap, _∙_, refl}
@@ -12,13 +13,13 @@ use Rattle.question.proofs.rows.rows_at.Tie as tie
 
 abbrev Inv-loop : tie.InvT-loop
 Inv-loop s columns first width n p rows₀ next₀ i₀ rows next i =
-    Going (λ rs q. rowAt s (rangesAt columns first width) q) (rowOf width) 4 n (many (λ rs q. rowAt s (rangesAt columns first width) q) n [] p) rows i next
+    Going (λ rs q. rowAt s (rangesAt columns first width) q) (rowOf width) mostRows n (many (λ rs q. rowAt s (rangesAt columns first width) q) n [] p) rows i next
 
 abbrev μ-loop : tie.MeasureT-loop
 μ-loop s columns first width n p rows₀ next₀ i₀ rows next i = n - i
 
 loop-holds : tie.Need-loop-holds Inv-loop μ-loop
-loop-holds c = going-start _ _ 4 _ _ _ refl
+loop-holds c = going-start _ _ mostRows _ _ _ refl
 
 row-at-requires : tie.Need-row-at-requires Inv-loop μ-loop
 row-at-requires c κs = search needs

@@ -1,3 +1,4 @@
+use Rattle.meaning.specs.Limits.{mostTables}
 use Rattle.question.specs.Layout.{total}
 use mathlib.Core.Path.{sym, ap, _∙_, refl}
 use Prim.Native.Nat.{_-_}
@@ -17,7 +18,7 @@ abbrev μ-loop : tie.MeasureT-loop
 
 loop-holds : tie.Need-loop-holds Inv-loop μ-loop
 unfolding total
-loop-holds c = record { going = going-start _ _ 4 _ _ _ refl; sums = refl; small = omega arith; each = λ j h. absurd (omega (arith, h)) }
+loop-holds c = record { going = going-start _ _ mostTables _ _ _ refl; sums = refl; small = omega arith; each = λ j h. absurd (omega (arith, h)) }
 
 sub-byte-at : tie.Need-sub-byte-at Inv-loop μ-loop
 sub-byte-at c = search needs
