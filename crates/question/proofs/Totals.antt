@@ -1,6 +1,6 @@
 -- Sums of widths, and the loop that reads them.
 use mathlib.Core.Path.{_≡_, sym, ap, _∙_}
-use mathlib.Core.List.{List, [], _∷_, map, map-id}
+use mathlib.Core.List.{List, [], _∷_, _++_, map, map-id}
 use Prim.Native.Nat.{ℕ, zero, suc, _+_, _-_, _≤_, _<_}
 use native.Mathlib.Omega.{arith}
 use native.Mathlib.Numerals.{add-one}
@@ -11,9 +11,13 @@ use Rattle.meaning.specs.Limits.{mostTables, mostColumns}
 use Rattle.question.specs.Layout.{total}
 use Rattle.question.specs.Reader.{found, many, byte, widthAt}
 use Rattle.question.specs.Shapes.{Counted}
-use Rattle.question.proofs.Layouts.{total-snoc}
 use Rattle.question.proofs.Loops.{Going, going-on}
 use Rattle.question.proofs.FieldLaws.{is-within}
+
+pub total-snoc : (ws : List ℕ) (w : ℕ) → total (ws ++ (w ∷ [])) ≡ total ws + w
+unfolding total
+total-snoc [] w = omega arith
+total-snoc (v ∷ ws) w = omega (arith, total-snoc ws w)
 
 pub total-more : (ws : List ℕ) (i : ℕ) → i < length ws → total (take (i + 1) ws) ≡ total (take i ws) + getD ws i 0
 total-more ws i h = rw (add-one, take-suc ws i 0 h) (total-snoc (take i ws) (getD ws i 0))
