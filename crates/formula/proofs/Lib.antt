@@ -19,3 +19,5 @@ pub mod Examples
 pub mod Stepwise
 pub mod Ranging
 pub mod Shown
+pub mod VertexLaws
+pub mod Troubled

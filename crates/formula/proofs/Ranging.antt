@@ -4,13 +4,12 @@ use mathlib.Core.Bool.{true, false}
 use mathlib.Core.List.{[], _++_}
 use Prim.Native.Nat.{ℕ, _+_, _-_, _*_, _≤_, _<_}
 use native.Mathlib.Omega.{arith}
-use lib.ListN.{length, getD, take, drop, length-map, List·getD-map, drop-of-length-le}
+use lib.ListN.{length, getD, drop, length-map, drop-of-length-le}
 use lib.Seq.{getD-take, getD-drop, length-take-le}
 use lib.Dec.{T}
 use Rattle.meaning.specs.Contents.{Range, Mode, keep, become, shift}
 use Rattle.meaning.specs.Trouble.{kept}
 use Rattle.question.specs.Held.{columnOf, rangesOf, questionOf}
-use Rattle.question.specs.Held as H
 use Rattle.question.specs.declared.types.Question.{Question}
 use Rattle.formula.specs.Program as P
 use Rattle.formula.specs.Compile as C
@@ -21,7 +20,7 @@ use Rattle.formula.specs.Partway.{Partway, noRange, boundedAt}
 use Rattle.formula.specs.declared.types.Program.{Program}
 use Rattle.formula.specs.declared.types.Sight.{Sight}
 use Rattle.formula.proofs.Emits.{emits-none}
-use Rattle.formula.proofs.Shapes.{changed-is, changed-length}
+use Rattle.formula.proofs.Shapes.{changed-is, changed-length, range-at}
 use Rattle.formula.proofs.Sightings.{mode-from}
 use Rattle.formula.proofs.Stepwise.{begin, next, piece-room, piece, finish}
 
@@ -49,12 +48,10 @@ Tests q s p now j =
 module _ (q : Question) (s : Sight) (u : Usable q s) (e : s .moved ≡ true) where
   range-is : (j : ℕ) → j < q .shape .width → getD (questionOf q .changed) j noRange ≡ columnOf (getD (q .columns) (q .shape .first + j) noColumn) .range
   range-is j h =
-      let i = q .shape .first + j in
       ap (λ t. getD t j noRange) (changed-is q (u .whole))
       ∙ getD-take (q .shape .width) (drop (q .shape .first) (rangesOf q)) j noRange h
       ∙ getD-drop (q .shape .first) (rangesOf q) j noRange
-      ∙ List·getD-map (λ c. c .range) (H.columnsOf q) i (columnOf noColumn)
-      ∙ ap (λ c. c .range) (List·getD-map columnOf (take (q .shape .total) (q .columns)) i noColumn ∙ ap columnOf (getD-take (q .shape .total) (q .columns) i noColumn (omega (arith, u .whole .held .shape .inside))))
+      ∙ range-at q (q .shape .first + j) (omega (arith, u .whole .held .shape .inside))
 
   modes-length : length (modesOf q s) ≡ q .shape .width
   modes-length = simp length-map (length-take-le (q .shape .width) (s .settings) (omega (arith, u .long, u .whole .held .shape .inside, u .whole .held .shape .fewColumns)))

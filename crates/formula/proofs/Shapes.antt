@@ -15,6 +15,7 @@ use Rattle.question.specs.Held as H
 use Rattle.question.specs.declared.types.Question.{Question}
 use Rattle.question.specs.declared.types.Column.{Column}
 use Rattle.formula.specs.Formulas.{among}
+use Rattle.formula.specs.Partway.{noRange}
 use Rattle.formula.specs.Seen.{Whole, noColumn}
 
 -- ---- tables of given widths, side by side again
@@ -101,6 +102,12 @@ among-shown (c ∷ cs) k (suc i) j e = go (c .range) (c .shown) (among-shown cs 
     go : (g : Range) (b : Bool) → among (visibleFrom (suc k) cs) j ≡ getD (map (λ c. c .shown) cs) i false → among (visibleFrom k (record { range = g; shown = b } ∷ cs)) j ≡ getD (map (λ c. c .shown) cs) i false
     go g true d = ap₂ _||_ (ne-eqb k j (λ x. absurd (omega arith))) d
     go g false d = d
+
+-- what a column ranges over
+pub range-at : (q : Question) (i : ℕ) → i < q .shape .total → getD (rangesOf q) i noRange ≡ columnOf (getD (q .columns) i noColumn) .range
+range-at q i h =
+    List·getD-map (λ c. c .range) (H.columnsOf q) i (columnOf noColumn)
+    ∙ ap (λ c. c .range) (List·getD-map columnOf (take (q .shape .total) (q .columns)) i noColumn ∙ ap columnOf (getD-take (q .shape .total) (q .columns) i noColumn h))
 
 pub visible-is : (q : Question) (i : ℕ) → i < q .shape .total → among (questionOf q .visible) i ≡ getD (q .columns) i noColumn .visible
 unfolding questionOf questionFrom

@@ -8,3 +8,5 @@ pub mod Cells
 pub mod Built
 pub mod Seen
 pub mod Partway
+pub mod Spans
+pub mod Able

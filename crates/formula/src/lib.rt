@@ -2,6 +2,9 @@
 pub mod build;
 pub mod joining;
 pub mod knowing;
+pub mod listing;
 pub mod seeing;
+pub mod spanning;
 pub mod telling;
+pub mod troubles;
 pub mod types;

@@ -33,3 +33,18 @@ pub struct Sight {
     pub second: bool,
     pub moved: bool,
 }
+
+// The vertex numbers below `count`: whether the formula has the vertex, and if so what it ranges over.
+pub struct Vertices {
+    pub count: usize,
+    pub present: [bool; 17],
+    pub lo: [i64; 17],
+    pub hi: [i64; 17],
+}
+
+// A compiled formula; `pairs`: it speaks of two rows.
+pub struct Formula {
+    pub program: Program,
+    pub pairs: bool,
+    pub vertices: Vertices,
+}

@@ -1,0 +1,19 @@
+use mathlib.Core.Path.{ap₂, sym}
+use Rattle.formula.specs.Parts.{conditionProgram}
+use Rattle.formula.proofs.Shapes.{condition-is}
+use Rattle.formula.proofs.Sightings.{sight-moved}
+use Rattle.formula.proofs.Weights.{said}
+use borrow.Author.Needs.{needs}
+use Rattle.formula.proofs.listing.relisted.Statement.{statement}
+use Rattle.formula.proofs.listing.relisted.Tie as tie
+
+condition-requires : tie.Need-condition-requires
+condition-requires c κs = search needs
+
+returns : tie.Need-returns
+returns c =
+    let at = c .before .before in
+    said (ap₂ conditionProgram (sight-moved (at .args .q) (at .args .s) (at .pre .2)) (sym (condition-is (at .args .q)))) (c .condition .ensures)
+
+pub relisted-spec : {M : Type 1} → statement M
+relisted-spec = tie.close (tie.spec condition-requires returns)
