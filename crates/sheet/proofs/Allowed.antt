@@ -16,9 +16,8 @@ use Rattle.question.specs.Layout.{questionFrom}
 use Rattle.question.specs.declared.types.Question.{Question}
 use Rattle.question.specs.declared.types.Row.{Row}
 use Rattle.question.specs.declared.types.Verb.the-variants.{Insert, Delete, Modify}
-use Rattle.formula.specs.Seen.{Whole}
+use Rattle.formula.specs.Seen.{noColumn, Whole}
 use Rattle.formula.proofs.Shapes.{first-is, columns-are}
-use Rattle.formula.specs.Seen.{noColumn}
 use Rattle.sheet.specs.Rows.{inColumn, insertedRow, fixed, matches}
 
 -- ---- an inserted row, set beside the columns before it

@@ -30,3 +30,4 @@ pub mod Allowed
 pub mod FieldRun
 pub mod Valued
 pub mod Truths
+pub mod Starting

@@ -1,12 +1,14 @@
 -- What the checker's code answers, as the definitions say it; and the formula that the code is lent.
-use Prim.Native.Nat.{ℕ, _+_, _-_, _≤_, _<_}
+use Prim.Native.Nat.{ℕ, suc, _+_, _-_, _≤_, _<_}
 use mathlib.Core.Path.{_≡_}
-use mathlib.Core.Bool.{Bool, false}
+use mathlib.Core.Bool.{Bool, true, false}
+use mathlib.Core.Option.{none, some}
 use mathlib.Core.List.{List, map}
 use lib.ListN.{length, take, drop, getD}
 use lib.IntN.{ℤ, pos}
 use Rattle.meaning.specs.Limits.{mostVertices, mostDecisions}
-use Rattle.grid.specs.Grid.{Grid, least-weight, Bounded}
+use Rattle.meaning.specs.Contents.{Range}
+use Rattle.grid.specs.Grid.{Grid, farN, least-weight, Bounded, AllWithin}
 use Rattle.grid.specs.Walk.{Below}
 use Rattle.formula.specs.Program.{places, kindsOf}
 use Rattle.formula.specs.Formulas.{Formula}
@@ -16,6 +18,7 @@ use Rattle.sheet.specs.declared.nodes.Past.{Past}
 use Rattle.sheet.specs.declared.nodes.Past.the-variants.{At, Refused}
 use Rattle.sheet.specs.declared.nodes.Naming.{Naming}
 use Rattle.sheet.specs.declared.nodes.Naming.the-variants.{All, Lacking}
+use Rattle.sheet.specs.Facts.{start}
 use Rattle.sheet.specs.Tree.{Outcome, passed, refused, Vertices, got, lacking, vertices, check}
 
 -- positions are those of the part that was lent, which starts at offset base
@@ -73,3 +76,22 @@ checkLeft F todo truths g at bs =
     let ps = places (F .program) in
     let decided = length ps - todo in
     check mostVertices F (drop decided ps) (map bit (take decided truths)) g at bs
+
+-- ---- the facts of the ranges
+
+-- which vertices there are beside 0, and their ranges
+pub record Spanned (rs : Ranges) (shown : List Bool) (lo hi : List ℤ) : Type 0 where
+  pub few : length rs < mostVertices
+  pub shows : Shows shown rs
+  pub lows : (k : ℕ) (g : Range) → getD rs k none ≡ some g → getD lo (suc k) (pos 0) ≡ g .lo
+  pub highs : (k : ℕ) (g : Range) → getD rs k none ≡ some g → getD hi (suc k) (pos 0) ≡ g .hi
+
+-- every range is small
+pub record SmallSpans (shown : List Bool) (lo hi : List ℤ) : Type 0 where
+  pub low : (k : ℕ) → getD shown (suc k) false ≡ true → Bounded least-weight (getD lo (suc k) (pos 0))
+  pub high : (k : ℕ) → getD shown (suc k) false ≡ true → Bounded least-weight (getD hi (suc k) (pos 0))
+
+-- the grid before any decision, whatever formula has these vertices
+pub record Starts (shown : List Bool) (lo hi : List ℤ) (g : Grid) : Type 0 where
+  pub meaning : (rs : Ranges) → Spanned rs shown lo hi → g ≡ start mostVertices rs
+  pub small : AllWithin farN mostVertices g
