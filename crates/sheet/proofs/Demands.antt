@@ -105,6 +105,13 @@ never-opposite a s this that v w e d =
     go sayNo sayYes x y = absurd (no-fails q (shown a s this v e .2) a this x y)
     go sayNo sayNo x y = refl
 
+-- a sheet that passes tells the verdict
+pub verdict-by : (a : ℕ) (s sheet : List ℕ) (v : Verdict) → Askable a → checkOf a s sheet ≡ says v → verdictOf a s ≡ says v
+verdict-by a s sheet v h e =
+    let c = checked a s sheet v e in
+    let p = has-passing-sheet a s (c .0) h (c .1) in
+    p .2 ∙ ap says (never-opposite a s (p .1) sheet (p .0) v (p .3) e)
+
 pub written-passes : WrittenPasses
 written-passes a s q h e room l =
     let v = verdictFor (findingOf q a) in

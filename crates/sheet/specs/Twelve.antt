@@ -130,7 +130,7 @@ twelve = case-a ∷ case-b ∷ case-c ∷ case-d ∷ case-e ∷ case-f ∷ case-
 
 -- ---- the test, and what it proves
 
-abbrev agrees : Answer → Verdict → Bool
+abbrev pub agrees : Answer → Verdict → Bool
 agrees (says sayYes) sayYes = true
 agrees (says sayYes) sayNo = false
 agrees (says sayNo) sayYes = false
