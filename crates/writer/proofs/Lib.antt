@@ -1,3 +1,4 @@
 pub mod Puts
 pub mod Growths
 pub mod Halves
+pub mod Starts

@@ -1,3 +1,4 @@
 // The writer of sheets. Its definitions are those of crate sheet.
 mod growing;
 mod room;
+mod starting;
