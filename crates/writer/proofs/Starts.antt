@@ -1,10 +1,9 @@
 -- One vertex more: its range's two facts go in, and the closure with them. No such fact closes a negative cycle, since the lowest values
 -- meet them all.
 use Prim.Native.Nat.{ℕ, zero, suc, _+_, _-_, _≤_, _<_}
-use mathlib.Core.Path.{_≡_, refl, sym, ap, _∙_, subst}
+use mathlib.Core.Path.{_≡_, refl, sym, ap, ap₂, _∙_, subst}
 use mathlib.Core.Bool.{Bool, true, false, cond}
-use mathlib.Core.Option.{none, some}
-use mathlib.Core.List.{List, [], _∷_}
+use mathlib.Core.List.{List}
 use native.Mathlib.Numerals.{add-one}
 use native.Mathlib.Omega.{arith}
 use lib.ListN.{getD}
@@ -13,17 +12,18 @@ use mir.Syntax.{w64}
 use mir.Val.{SFits}
 use Rattle.ints.proofs.Machine.{machine}
 use lib.Signed.{_≤ℤ_}
-use Rattle.ints.proofs.Bridge.{up, dn, ints, +law, neg-up, neg-dn}
+use Rattle.ints.proofs.Bridge.{up, dn, ints, minZ, +law, neg-up, neg-dn}
 use Rattle.grid.specs.Grid.{Grid, weight, tighten, tabled, blank, Sized, far, farN, Bounded, AllWithin}
-use Rattle.grid.specs.Near.{relax, nearBlank, Closure}
+use Rattle.grid.specs.Near.{Weights, relax, nearBlank, Closure}
 use Rattle.grid.specs.Walk.{Sat}
 use Rattle.grid.proofs.Grids.{tighten-le, tighten-sized, blank-sized, blank-far}
 use Rattle.grid.proofs.Rows.{tabled-sized, tabled-at}
 use Rattle.grid.proofs.Nears.{closure-same, relax-closure, sat-round, tightened, blank-closure-of, tabled-closure, sat-tighten, near-small}
 use Rattle.formula.specs.Vertices.{Ranges}
 use Rattle.formula.proofs.Sizes.{billion}
-use Rattle.sheet.specs.Facts.{confine, confineAll, start}
-use Rattle.writer.specs.Starting.{rangeAt, rangesFrom, Ranged}
+use Rattle.sheet.specs.Facts.{confineAll, start}
+use Rattle.sheet.specs.Fast.{nearConfineAll, nearStart}
+use Rattle.writer.specs.Starting.{rangesFrom, Ranged, NearStarts}
 
 -- ---- one fact more that some values meet
 module _ (n : ℕ) (few : n ≤ 17) (x : ℕ → ℤ) where
@@ -98,6 +98,26 @@ module _ (count : ℕ) (present : List Bool) (lo hi : List ℤ) (s : Ranged coun
   unfolding confineAll rangesFrom
   left-end g v h = let d : count - v ≡ 0 = omega arith in rw d
 
+  pub near-there : (f : Weights) (v : ℕ) → v < count → getD present v false ≡ true → nearConfineAll (relax (relax f 0 v (getD hi v (pos 0))) v 0 (negℤ (getD lo v (pos 0)))) (v + 1) (Left (v + 1)) ≡ nearConfineAll f v (Left v)
+  unfolding nearConfineAll rangesFrom
+  near-there f v h e = let d : count - v ≡ suc (count - (v + 1)) = omega arith in rw (d, e, add-one v)
+
+  pub near-none : (f : Weights) (v : ℕ) → v < count → getD present v false ≡ false → nearConfineAll f (v + 1) (Left (v + 1)) ≡ nearConfineAll f v (Left v)
+  unfolding nearConfineAll rangesFrom
+  near-none f v h e = let d : count - v ≡ suc (count - (v + 1)) = omega arith in rw (d, e, add-one v)
+
+  pub near-end : (f : Weights) (v : ℕ) → count ≤ v → nearConfineAll f v (Left v) ≡ f
+  unfolding nearConfineAll rangesFrom
+  near-end f v h = let d : count - v ≡ 0 = omega arith in rw d
+
+  -- a table that holds a closure's entries below count still does after one more edge
+  abbrev SameIn : Weights → Grid → Type 0
+  SameIn f near = (u v : ℕ) → u < count → v < count → weight near u v ≡ f u v
+
+  relax-same : (f : Weights) (near : Grid) (b a : ℕ) (k : ℤ) → Sized 17 near → b < count → a < count → SameIn f near → SameIn (relax f b a k) (tabled (relax (weight near) b a k) count near)
+  unfolding relax
+  relax-same f near b a k sz hb ha e u v hu hv = tabled-at (relax (weight near) b a k) 17 count near (s .few) sz u v hu hv ∙ ap₂ minZ (e u v hu hv) (ap₂ (λ x y. (x +ℤ k) +ℤ y) (e u b hu hb) (e a v ha hv))
+
   -- ---- the loop: before vertex v the closure is that of the facts so far, and the rest makes of them the whole
   pub record Going (v : ℕ) (near : Grid) : Type 0 where
     pub low : 1 ≤ v
@@ -107,6 +127,9 @@ module _ (count : ℕ) (present : List Bool) (lo hi : List ℤ) (s : Ranged coun
     pub met : Met count (s .few) lowest facts
     pub closed : Closure count (weight facts) (weight near)
     pub rest : confineAll facts v (Left v) ≡ start 17 (Left 1)
+    pub sums : Weights
+    pub same : (u w : ℕ) → u < count → w < count → weight near u w ≡ sums u w
+    pub sums-rest : nearConfineAll sums v (Left v) ≡ nearStart (Left 1)
 
   pub going-start : (near : Grid) → near ≡ tabled nearBlank 17 (blank 17) → Going 1 near
   going-start near e = record {
@@ -117,6 +140,9 @@ module _ (count : ℕ) (present : List Bool) (lo hi : List ℤ) (s : Ranged coun
     met = met-blank;
     closed = rw e (closure-same count (weight (blank 17)) nearBlank (weight (tabled nearBlank 17 (blank 17))) (λ u v hu hv. tabled-at nearBlank 17 17 (blank 17) (omega arith) (blank-sized 17) u v (omega (arith, s .few)) (omega (arith, s .few))) (blank-closure-of count 17));
     rest = refl;
+    sums = nearBlank;
+    same = λ u v hu hv. rw e (tabled-at nearBlank 17 17 (blank 17) (omega arith) (blank-sized 17) u v (omega (arith, s .few)) (omega (arith, s .few)));
+    sums-rest = refl;
   }
 
   pub going-within : (v : ℕ) (near : Grid) → Going v near → AllWithin farN count near
@@ -149,6 +175,9 @@ module _ (count : ℕ) (present : List Bool) (lo hi : List ℤ) (s : Ranged coun
       first-closed : Closure count (weight (tighten (g .facts) 0 v (getD hi v (pos 0)))) (weight near₁)
       first-closed = rw (f, d) (closure-more count (s .few) lowest (g .facts) near 0 v (getD hi v (pos 0)) (g .met) (g .table) (g .closed) (s .some-vertex) h (above v (g .low) h e))
 
+      first-same : SameIn (relax (g .sums) 0 v (getD hi v (pos 0))) near₁
+      first-same = rw (f, d) (relax-same (g .sums) near 0 v (getD hi v (pos 0)) (g .table) (s .some-vertex) h (g .same))
+
       pub first-within : AllWithin farN count near₁
       first-within = within-far count (s .few) lowest (tighten (g .facts) 0 v (getD hi v (pos 0))) near₁ first-met first-closed
 
@@ -165,10 +194,16 @@ module _ (count : ℕ) (present : List Bool) (lo hi : List ℤ) (s : Ranged coun
             met = met-more count (s .few) lowest g₁ v 0 l first-met (below v (g .low) e);
             closed = rw (f₂, d₂) (closure-more count (s .few) lowest g₁ near₁ v 0 l first-met first-sized first-closed h (s .some-vertex) (below v (g .low) e));
             rest = left-there (g .facts) v h e ∙ g .rest;
+            sums = relax (relax (g .sums) 0 v (getD hi v (pos 0))) v 0 l;
+            same = rw (f₂, d₂) (relax-same (relax (g .sums) 0 v (getD hi v (pos 0))) near₁ v 0 l first-sized h (s .some-vertex) first-same);
+            sums-rest = near-there (g .sums) v h e ∙ g .sums-rest;
           }
 
   pub going-none : (v : ℕ) (near : Grid) → Going v near → v < count → getD present v false ≡ false → Going (v + 1) near
-  going-none v near g h e = record { low = omega arith; high = omega arith; table = g .table; facts = g .facts; met = g .met; closed = g .closed; rest = left-none (g .facts) v h e ∙ g .rest }
+  going-none v near g h e = record { low = omega arith; high = omega arith; table = g .table; facts = g .facts; met = g .met; closed = g .closed; rest = left-none (g .facts) v h e ∙ g .rest; sums = g .sums; same = g .same; sums-rest = near-none (g .sums) v h e ∙ g .sums-rest }
 
-  pub going-end : (v : ℕ) (near : Grid) → Going v near → count ≤ v → Closure count (weight (start 17 (Left 1))) (weight near)
-  going-end v near g h = subst (λ x. Closure count (weight x) (weight near)) (sym (left-end (g .facts) v h) ∙ g .rest) (g .closed)
+  pub going-end : (v : ℕ) (near : Grid) → Going v near → count ≤ v → NearStarts count (Left 1) near
+  going-end v near g h = record {
+    closed = subst (λ x. Closure count (weight x) (weight near)) (sym (left-end (g .facts) v h) ∙ g .rest) (g .closed);
+    same = λ u w hu hw. g .same u w hu hw ∙ ap (λ f. f u w) (sym (near-end (g .sums) v h) ∙ g .sums-rest);
+  }

@@ -11,6 +11,10 @@ use Rattle.ints.proofs.Bridge.{up, dn}
 use Rattle.meaning.specs.Contents.{Range}
 use Rattle.formula.specs.Vertices.{Ranges}
 use Rattle.formula.proofs.Sizes.{billion}
+use Rattle.grid.specs.Grid.{Grid, weight}
+use Rattle.grid.specs.Near.{Closure}
+use Rattle.sheet.specs.Facts.{start}
+use Rattle.sheet.specs.Fast.{nearStart}
 
 -- the range of vertex v, if it is there
 abbrev pub rangeAt : List Bool → List ℤ → List ℤ → ℕ → Option Range
@@ -28,3 +32,8 @@ pub record Ranged (count : ℕ) (present : List Bool) (lo hi : List ℤ) : Type 
   pub nonempty : (v : ℕ) → v < count → getD present v false ≡ true → getD lo v (pos 0) ≤ℤ getD hi v (pos 0)
   pub small-lo : (v : ℕ) → v < count → getD present v false ≡ true → (up (getD lo v (pos 0)) ≤ billion) × (dn (getD lo v (pos 0)) ≤ billion)
   pub small-hi : (v : ℕ) → v < count → getD present v false ≡ true → (up (getD hi v (pos 0)) ≤ billion) × (dn (getD hi v (pos 0)) ≤ billion)
+
+-- the closure of the ranges' facts, in a table: it is one, and its entries are the definition's
+pub record NearStarts (count : ℕ) (rs : Ranges) (near : Grid) : Type 0 where
+  pub closed : Closure count (weight (start 17 rs)) (weight near)
+  pub same : (u v : ℕ) → u < count → v < count → weight near u v ≡ nearStart rs u v

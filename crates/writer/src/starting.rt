@@ -3,10 +3,7 @@ use grid::near_blank;
 use grid::relax;
 use ints::weights::difference;
 ghost use Prim.Native.Nat.{_-_};
-ghost use Rattle.grid.specs.Grid.{weight};
-ghost use Rattle.grid.specs.Near.{Closure};
-ghost use Rattle.sheet.specs.Facts.{start};
-ghost use Rattle.writer.specs.Starting.{rangesFrom, Ranged};
+ghost use Rattle.writer.specs.Starting.{rangesFrom, Ranged, NearStarts};
 
 // The least sums of walks along these facts.
 pub fn near_start(
@@ -16,7 +13,7 @@ pub fn near_start(
     hi: [i64; 17],
 ) -> [[i64; 17]; 17]
     requires { ⌜ Ranged count present lo hi ⌝ }
-    ensures { λ r. ⌜ Closure count (weight (start 17 (rangesFrom present lo hi 1 (count - 1)))) (weight r) ⌝ }
+    ensures { λ r. ⌜ NearStarts count (rangesFrom present lo hi 1 (count - 1)) r ⌝ }
 {
     let mut near = near_blank();
     let mut v: usize = 1;

@@ -1,8 +1,7 @@
 -- Before each vertex the table is the closure of the facts so far.
 use borrow.Author.Needs.{needs}
-use native.Mathlib.Omega.{arith}
 use Prim.Native.Nat.{_-_}
-use mathlib.Core.Path.{_≡_, sym, ap, _∙_, subst}
+use mathlib.Core.Path.{sym, ap, _∙_, subst}
 use mir.Facts.{toZ-ofZ}
 use mir.Syntax.{w64}
 use mir.Val.{SFits}
@@ -11,11 +10,6 @@ use Rattle.writer.specs.Starting.{Ranged}
 use Rattle.writer.proofs.Starts.{Going, going-start, going-within, hi-bounded, lo-bounded, hi-fits, lo-fits, lower-fits, first-within, going-there, going-none, going-end}
 use Rattle.writer.proofs.starting.near_start.Statement.{statement}
 use Rattle.writer.proofs.starting.near_start.Tie as tie
-use Rattle.writer.proofs.starting.near_start.Reads as reads
-use Rattle.writer.proofs.starting.near_start.Lts as lts
-use Rattle.grid.proofs.near_blank.Reads as near-blank-reads
-use Rattle.grid.proofs.relax.Reads as relax-reads
-use Rattle.ints.proofs.weights.difference.Reads as difference-reads
 
 abbrev Inv-loop : tie.InvT-loop
 Inv-loop count present lo hi near₀ v₀ near v = (r : Ranged count present lo hi) → Going count present lo hi r v near
@@ -23,28 +17,22 @@ Inv-loop count present lo hi near₀ v₀ near v = (r : Ranged count present lo 
 abbrev μ-loop : tie.MeasureT-loop
 μ-loop count present lo hi near₀ v₀ near v = count - v
 
--- src/starting.rt:15:9
 near-blank-requires : tie.Need-near-blank-requires Inv-loop μ-loop
 near-blank-requires c κs = search needs
 
--- src/starting.rt:17:5
 loop-holds : tie.Need-loop-holds Inv-loop μ-loop
 loop-holds c =
     λ r. going-start _ _ _ _ r _ (c .near-blank .ensures)
 
--- src/starting.rt:18:21
 array-read-there : tie.Need-array-read-there Inv-loop μ-loop
 array-read-there c = search needs
 
--- src/starting.rt:20:50
 mul-relax : tie.Need-mul-relax Inv-loop μ-loop
 mul-relax c = search needs
 
--- src/starting.rt:20:50
 array-copy-out-relax : tie.Need-array-copy-out-relax Inv-loop μ-loop
 array-copy-out-relax c = search needs
 
--- src/starting.rt:20:17
 relax-requires : tie.Need-relax-requires Inv-loop μ-loop
 relax-requires c κs =
     let s = c .before .before .before .before .before in
@@ -54,15 +42,12 @@ relax-requires c κs =
     let e = c .before .if1 .taken in
     ((s .pre .few, s .pre .some-vertex, h), (hi-bounded _ _ _ _ (s .pre) (at .v) (at .near) g h e _ (toZ-ofZ {w = w64} (hi-fits _ _ _ _ (s .pre) (at .v) (at .near) g h e)), going-within _ _ _ _ (s .pre) (at .v) (at .near) g))
 
--- src/starting.rt:21:60
 mul-difference : tie.Need-mul-difference Inv-loop μ-loop
 mul-difference c = search needs
 
--- src/starting.rt:21:60
 array-copy-out-difference : tie.Need-array-copy-out-difference Inv-loop μ-loop
 array-copy-out-difference c = search needs
 
--- src/starting.rt:21:46
 difference-requires : tie.Need-difference-requires Inv-loop μ-loop
 difference-requires c κs =
     let s = c .before .before .before .before .before .before .before in
@@ -72,7 +57,6 @@ difference-requires c κs =
     let e = c .before .before .before .if1 .taken in
     subst (λ z. SFits w64 (pos 0 -ℤ z)) (sym (toZ-ofZ {w = w64} (lo-fits _ _ _ _ (s .pre) (at .v) (at .near) g h e))) (lower-fits _ _ _ _ (s .pre) (at .v) (at .near) g h e)
 
--- src/starting.rt:21:13
 relax-requires-2 : tie.Need-relax-requires-2 Inv-loop μ-loop
 relax-requires-2 c κs =
     let s = c .before .before .before .before .before .before .before .before in
@@ -82,15 +66,12 @@ relax-requires-2 c κs =
     let e = c .before .before .before .before .if1 .taken in
     ((s .pre .few, h, s .pre .some-vertex), (lo-bounded _ _ _ _ (s .pre) (at .v) (at .near) g h e _ (toZ-ofZ {w = w64} (record { sfits = c .difference .ok }) ∙ c .difference .ensures ∙ ap (λ z. pos 0 -ℤ z) (toZ-ofZ {w = w64} (lo-fits _ _ _ _ (s .pre) (at .v) (at .near) g h e)) ∙ +ℤ-idl _), first-within _ _ _ _ (s .pre) (at .v) (at .near) g h e _ _ (toZ-ofZ {w = w64} (hi-fits _ _ _ _ (s .pre) (at .v) (at .near) g h e)) (c .before .before .relax .ensures)))
 
--- src/starting.rt:22:13
 add-v : tie.Need-add-v Inv-loop μ-loop
 add-v c = search needs
 
--- src/starting.rt:17:5
 loop-less : tie.Need-loop-less Inv-loop μ-loop
 loop-less c = search needs
 
--- src/starting.rt:17:5
 loop-again : tie.Need-loop-again Inv-loop μ-loop
 loop-again c =
     let s = c .before .before .before .before .before .before .before .before .before in
@@ -100,21 +81,17 @@ loop-again c =
     let e = c .before .before .before .before .before .if1 .taken in
     λ r. going-there _ _ _ _ r (at .v) (at .near) (at .inv r) h e _ _ (toZ-ofZ {w = w64} (hi-fits _ _ _ _ (s .pre) (at .v) (at .near) g h e)) (c .before .before .before .relax .ensures) _ _ (toZ-ofZ {w = w64} (record { sfits = c .before .difference .ok }) ∙ c .before .difference .ensures ∙ ap (λ z. pos 0 -ℤ z) (toZ-ofZ {w = w64} (lo-fits _ _ _ _ (s .pre) (at .v) (at .near) g h e)) ∙ +ℤ-idl _) (c .relax2 .ensures)
 
--- src/starting.rt:25:9
 add-v-2 : tie.Need-add-v-2 Inv-loop μ-loop
 add-v-2 c = search needs
 
--- src/starting.rt:17:5
 loop-less-2 : tie.Need-loop-less-2 Inv-loop μ-loop
 loop-less-2 c = search needs
 
--- src/starting.rt:17:5
 loop-again-2 : tie.Need-loop-again-2 Inv-loop μ-loop
 loop-again-2 c =
     let at = c .before .before .loop in
     λ r. going-none _ _ _ _ r (at .v) (at .near) (at .inv r) (c .before .loop-test .taken) (c .if1 .left)
 
--- src/starting.rt:11:1
 returns : tie.Need-returns Inv-loop μ-loop
 returns c =
     let s = c .before .before .before in
