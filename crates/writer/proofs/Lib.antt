@@ -2,3 +2,4 @@ pub mod Puts
 pub mod Growths
 pub mod Halves
 pub mod Starts
+pub mod Plants

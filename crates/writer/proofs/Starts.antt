@@ -64,7 +64,7 @@ module _ (count : ℕ) (present : List Bool) (lo hi : List ℤ) (s : Ranged coun
   low-small (suc v) h = go (getD present (suc v) false) refl
     where
       go : (b : Bool) → getD present (suc v) false ≡ b → (up (cond b (getD lo (suc v) (pos 0)) (pos 0)) ≤ billion) × (dn (cond b (getD lo (suc v) (pos 0)) (pos 0)) ≤ billion)
-      go true e = s .small-lo (suc v) h e
+      go true e = s .small-lo (suc v) (omega arith) h e
       go false e = (omega arith, omega arith)
 
   pub met-blank : Met count (s .few) lowest (blank 17)
@@ -77,7 +77,7 @@ module _ (count : ℕ) (present : List Bool) (lo hi : List ℤ) (s : Ranged coun
 
   -- the two facts of a range
   pub above : (v : ℕ) → 0 < v → v < count → getD present v false ≡ true → lowest v ≤ℤ (lowest 0 +ℤ getD hi v (pos 0))
-  above v z h e = omega (ints, low-there v z e, s .nonempty v h e, +law (pos 0) (getD hi v (pos 0)))
+  above v z h e = omega (ints, low-there v z e, s .nonempty v z h e, +law (pos 0) (getD hi v (pos 0)))
 
   pub below : (v : ℕ) → 0 < v → getD present v false ≡ true → lowest 0 ≤ℤ (lowest v +ℤ negℤ (getD lo v (pos 0)))
   below v z e = omega (ints, low-there v z e, neg-up (getD lo v (pos 0)), neg-dn (getD lo v (pos 0)), +law (lowest v) (negℤ (getD lo v (pos 0))))
@@ -150,19 +150,19 @@ module _ (count : ℕ) (present : List Bool) (lo hi : List ℤ) (s : Ranged coun
 
   module _ (v : ℕ) (near : Grid) (g : Going v near) (h : v < count) (e : getD present v false ≡ true) where
     pub hi-bounded : (k : ℤ) → k ≡ getD hi v (pos 0) → Bounded farN k
-    hi-bounded k d = let b = s .small-hi v h e in rw d (record { high = omega (arith, b .0); low = omega (arith, b .1) })
+    hi-bounded k d = let b = s .small-hi v (g .low) h e in rw d (record { high = omega (arith, b .0); low = omega (arith, b .1) })
 
     pub lo-bounded : (k : ℤ) → k ≡ negℤ (getD lo v (pos 0)) → Bounded farN k
-    lo-bounded k d = let b = s .small-lo v h e in rw d (record { high = omega (arith, b .1, neg-up (getD lo v (pos 0))); low = omega (arith, b .0, neg-dn (getD lo v (pos 0))) })
+    lo-bounded k d = let b = s .small-lo v (g .low) h e in rw d (record { high = omega (arith, b .1, neg-up (getD lo v (pos 0))); low = omega (arith, b .0, neg-dn (getD lo v (pos 0))) })
 
     pub hi-fits : SFits w64 (getD hi v (pos 0))
-    hi-fits = let b = s .small-hi v h e in omega (arith, machine, b .0, b .1)
+    hi-fits = let b = s .small-hi v (g .low) h e in omega (arith, machine, b .0, b .1)
 
     pub lo-fits : SFits w64 (getD lo v (pos 0))
-    lo-fits = let b = s .small-lo v h e in omega (arith, machine, b .0, b .1)
+    lo-fits = let b = s .small-lo v (g .low) h e in omega (arith, machine, b .0, b .1)
 
     pub lower-fits : SFits w64 (pos 0 -ℤ getD lo v (pos 0))
-    lower-fits = let b = s .small-lo v h e in omega (arith, machine, b .0, b .1)
+    lower-fits = let b = s .small-lo v (g .low) h e in omega (arith, machine, b .0, b .1)
 
     -- with the upper bound in
     module _ (k : ℤ) (near₁ : Grid) (d : k ≡ getD hi v (pos 0)) (f : near₁ ≡ tabled (relax (weight near) 0 v k) count near) where

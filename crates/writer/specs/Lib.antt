@@ -1,3 +1,4 @@
 pub mod Room
 pub mod Growing
 pub mod Starting
+pub mod Planting

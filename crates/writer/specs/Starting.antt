@@ -29,9 +29,9 @@ rangesFrom present lo hi v (suc n) = rangeAt present lo hi v ∷ rangesFrom pres
 pub record Ranged (count : ℕ) (present : List Bool) (lo hi : List ℤ) : Type 0 where
   pub some-vertex : 0 < count
   pub few : count ≤ 17
-  pub nonempty : (v : ℕ) → v < count → getD present v false ≡ true → getD lo v (pos 0) ≤ℤ getD hi v (pos 0)
-  pub small-lo : (v : ℕ) → v < count → getD present v false ≡ true → (up (getD lo v (pos 0)) ≤ billion) × (dn (getD lo v (pos 0)) ≤ billion)
-  pub small-hi : (v : ℕ) → v < count → getD present v false ≡ true → (up (getD hi v (pos 0)) ≤ billion) × (dn (getD hi v (pos 0)) ≤ billion)
+  pub nonempty : (v : ℕ) → 0 < v → v < count → getD present v false ≡ true → getD lo v (pos 0) ≤ℤ getD hi v (pos 0)
+  pub small-lo : (v : ℕ) → 0 < v → v < count → getD present v false ≡ true → (up (getD lo v (pos 0)) ≤ billion) × (dn (getD lo v (pos 0)) ≤ billion)
+  pub small-hi : (v : ℕ) → 0 < v → v < count → getD present v false ≡ true → (up (getD hi v (pos 0)) ≤ billion) × (dn (getD hi v (pos 0)) ≤ billion)
 
 -- the closure of the ranges' facts, in a table: it is one, and its entries are the definition's
 pub record NearStarts (count : ℕ) (rs : Ranges) (near : Grid) : Type 0 where

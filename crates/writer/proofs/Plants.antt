@@ -1,0 +1,188 @@
+-- What the root of a formula's tree is given: its facts and their closure are ready, and the fast rule from there is the writer's rule.
+use Prim.Native.Nat.{ℕ, zero, suc, _+_, _-_, _≤_, _<_}
+use mathlib.Core.Path.{_≡_, refl, sym, ap, ap₂, _∙_, subst}
+use mathlib.Core.Bool.{Bool, true, false}
+use mathlib.Core.Option.{Option, none, some}
+use mathlib.Core.List.{List, [], _∷_, map}
+use native.Mathlib.Omega.{arith}
+use lib.ListN.{length, getD, take, length-map}
+use lib.IntN.{ℤ, pos, negsuc, negℤ}
+use lib.Signed.{_≤ℤ_}
+use Rattle.ints.proofs.Bridge.{up, dn, +up, +dn, neg-up, neg-dn}
+use Rattle.meaning.specs.Contents.{Range}
+use Rattle.meaning.specs.Limits.{mostVertices}
+use Rattle.question.specs.Accepted.{Every}
+use Rattle.grid.specs.Grid.{Grid, weight}
+use Rattle.formula.specs.Formulas.{Formula}
+use Rattle.formula.specs.Program.{Place, places}
+use Rattle.formula.specs.Vertices.{Ranges, isSome}
+use Rattle.formula.proofs.Proper.{Proper, SmallRange, Nonempty}
+use Rattle.formula.proofs.Sizes.{billion, SmallPlace}
+use Rattle.sheet.specs.Facts.{start, taken}
+use Rattle.sheet.specs.Fast.{fast, nearStart}
+use Rattle.sheet.specs.Grow.{Growth, shut, openAt, growTree}
+use Rattle.sheet.specs.Sheet.{lastVertex}
+use Rattle.sheet.specs.Checking.{Spanned, SmallSpans}
+use Rattle.sheet.proofs.Fasts.{Same}
+use Rattle.sheet.proofs.FastAmong.{Ends, fast-table, fast-formula}
+use Rattle.sheet.proofs.Fit.{fit, present-below}
+use Rattle.sheet.proofs.Holds.{bounds-start}
+use Rattle.sheet.proofs.NearStart.{start-far}
+use Rattle.writer.specs.Growing.{Lent, Grows, Fact, Ready, fastAt, placeAt}
+use Rattle.writer.specs.Planting.{Coded, Ranging}
+use Rattle.writer.specs.Starting.{rangeAt, rangesFrom, Ranged, NearStarts}
+use Rattle.writer.specs.declared.room.Spot.{Spot}
+use Rattle.writer.specs.declared.growing.Grown.{Grown}
+use Rattle.writer.proofs.Growths.{grows-same}
+
+-- ---- ranges by position
+
+range-at : (rs : Ranges) (P : Option Range → Type 0) → Every P rs → (k : ℕ) (g : Range) → getD rs k none ≡ some g → P (some g)
+range-at [] P a k g e = let z : _≡_ {A = ℕ} 0 1 = cc in absurd (omega arith)
+range-at (r ∷ rs) P a zero g e = subst P e (a .0)
+range-at (r ∷ rs) P a (suc k) g e = range-at rs P (a .1) k g e
+
+-- a vertex that is there has a range
+there : (o : Option Range) → isSome o ≡ true → (g : Range) × (o ≡ some g)
+there none e = let z : _≡_ {A = ℕ} 0 1 = cc in absurd (omega arith)
+there (some g) e = (g, refl)
+
+module _ (rs : Ranges) (count : ℕ) (flags : List Bool) (lo hi : List ℤ) (r : Ranging rs count flags lo hi) where
+  flagged : (k : ℕ) → getD flags (suc k) false ≡ true → (g : Range) × (getD rs k none ≡ some g)
+  flagged k e = there (getD rs k none) (sym (r .agree (suc k)) ∙ e)
+
+  -- the lists, read back, are the ranges
+  ranges-from : (v : ℕ) (ts : Ranges) → ((k : ℕ) → getD ts k none ≡ getD rs (v + k) none) → v + length ts ≤ length rs → rangesFrom flags lo hi (suc v) (length ts) ≡ ts
+  unfolding rangesFrom
+  ranges-from v [] f h = refl
+  ranges-from v (t ∷ ts) f h = ap₂ _∷_ (one (getD flags (suc v) false) refl t (f 0 ∙ ap (λ m. getD rs m none) (omega arith))) (ranges-from (suc v) ts (λ k. f (suc k) ∙ ap (λ m. getD rs m none) (omega arith)) (omega arith))
+    where
+      one : (b : Bool) → getD flags (suc v) false ≡ b → (t : Option Range) → t ≡ getD rs v none → rangeAt flags lo hi (suc v) ≡ t
+      one true e none d = let p = flagged v e in let z : _≡_ {A = ℕ} 0 1 = cc in absurd (omega arith)
+      one true e (some g) d = rw e (ap some (ap₂ (λ x y. record { lo = x; hi = y }) (r .lows v g (sym d)) (r .highs v g (sym d))))
+      one false e none d = rw e
+      one false e (some g) d = let p : isSome (getD rs v none) ≡ false = sym (r .agree (suc v)) ∙ e in let z : _≡_ {A = ℕ} 0 1 = cc in absurd (omega arith)
+
+  pub ranges-are : rangesFrom flags lo hi 1 (count - 1) ≡ rs
+  ranges-are = let d : count - 1 ≡ length rs = omega (arith, r .count-is) in ap (rangesFrom flags lo hi 1) d ∙ ranges-from 0 rs (λ k. ap (λ m. getD rs m none) (omega arith)) (omega arith)
+
+  module _ (small : Every SmallRange rs) where
+    pub small-spans : SmallSpans flags lo hi
+    small-spans = record {
+      low = λ k e. let p = flagged k e in let b = range-at rs SmallRange small k (p .0) (p .1) in rw (r .lows k (p .0) (p .1)) (record { high = omega (arith, b .2); low = omega (arith, b .3) });
+      high = λ k e. let p = flagged k e in let b = range-at rs SmallRange small k (p .0) (p .1) in rw (r .highs k (p .0) (p .1)) (record { high = omega (arith, b .0); low = omega (arith, b .1) });
+    }
+
+    pub spanned : length rs < mostVertices → Spanned rs flags lo hi
+    spanned h = record { few = h; shows = record { agree = r .agree }; lows = r .lows; highs = r .highs }
+
+    pub ranged : length rs < mostVertices → Every Nonempty rs → Ranged count flags lo hi
+    ranged h some-value = record {
+      some-vertex = omega (arith, r .count-is);
+      few = omega (arith, r .count-is);
+      nonempty = λ v z l e. at v z e (λ x. getD lo x (pos 0) ≤ℤ getD hi x (pos 0)) (λ k g d. rw (r .lows k g d, r .highs k g d) (range-at rs Nonempty some-value k g d));
+      small-lo = λ v z l e. at v z e (λ x. (up (getD lo x (pos 0)) ≤ billion) × (dn (getD lo x (pos 0)) ≤ billion)) (λ k g d. let b = range-at rs SmallRange small k g d in rw (r .lows k g d) (b .2, b .3));
+      small-hi = λ v z l e. at v z e (λ x. (up (getD hi x (pos 0)) ≤ billion) × (dn (getD hi x (pos 0)) ≤ billion)) (λ k g d. let b = range-at rs SmallRange small k g d in rw (r .highs k g d) (b .0, b .1));
+    }
+      where
+        at : (v : ℕ) → 0 < v → getD flags v false ≡ true → (P : ℕ → Type 0) → ((k : ℕ) (g : Range) → getD rs k none ≡ some g → P (suc k)) → P v
+        at zero z e P f = absurd (omega arith)
+        at (suc k) z e P f = let p = flagged k e in f k (p .0) (p .1)
+
+-- ---- places by position
+
+place-at : (ps : List Place) (P : Place → Type 0) → Every P ps → (k : ℕ) (d : Place) → k < length ps → P (getD ps k d)
+place-at [] P a k d h = absurd (omega arith)
+place-at (p ∷ ps) P a zero d h = a .0
+place-at (p ∷ ps) P a (suc k) d h = place-at ps P (a .1) k d (omega arith)
+
+listed : {A : Type 0} (f : Place → A) (ps : List Place) (k : ℕ) (d : Place) (e : A) → k < length ps → getD (map f ps) k e ≡ f (getD ps k d)
+listed f [] k d e h = absurd (omega arith)
+listed f (p ∷ ps) zero d e h = refl
+listed f (p ∷ ps) (suc k) d e h = listed f ps k d e (omega arith)
+
+module _ (F : Formula) (kinds : List ℕ) (n : ℕ) (left right : List ℕ) (most : List ℤ) (few : ℕ) (c : Coded F kinds n left right most few) where
+  abbrev ls : List ℕ
+  ls = take few left
+
+  abbrev rs : List ℕ
+  rs = take few right
+
+  abbrev ms : List ℤ
+  ms = take few most
+
+  pub lengths : (length ls ≡ few) × (length rs ≡ few) × (length ms ≡ few)
+  lengths =
+      let d = c .few-is in (
+        ap length (c .left-are) ∙ length-map (places (F .program)) (λ a. a .left) ∙ sym d,
+        ap length (c .right-are) ∙ length-map (places (F .program)) (λ a. a .right) ∙ sym d,
+        ap length (c .most-are) ∙ length-map (places (F .program)) (λ a. a .most) ∙ sym d,
+      )
+
+  place-is : (k : ℕ) (d : Place) → k < length ms → getD (places (F .program)) k d ≡ placeAt ls rs ms k
+  place-is k d h =
+      let l : k < length (places (F .program)) = omega (arith, lengths .2, c .few-is) in
+      let p = getD (places (F .program)) k d in
+      made p (getD ls k 0) (getD rs k 0) (getD ms k (pos 0))
+      (ap (λ x. getD x k 0) (c .left-are) ∙ listed (λ a. a .left) (places (F .program)) k d 0 l)
+      (ap (λ x. getD x k 0) (c .right-are) ∙ listed (λ a. a .right) (places (F .program)) k d 0 l)
+      (ap (λ x. getD x k (pos 0)) (c .most-are) ∙ listed (λ a. a .most) (places (F .program)) k d (pos 0) l)
+    where
+      made : (p : Place) (a b : ℕ) (m : ℤ) → a ≡ p .left → b ≡ p .right → m ≡ p .most → p ≡ record { left = a; right = b; most = m }
+      made p a b m e f g = rw (e, f, g)
+
+  pub lent : Lent (F .program) (take n kinds) ls rs ms
+  lent = record { kinds-are = c .kinds-are; places-are = lengths .2 ∙ c .few-is; place-is = λ i h. place-is i _ h }
+
+  module _ (p : Proper F) where
+    last : ℕ
+    last = length (F .ranges)
+
+    fact-of : (q : Place) → SmallPlace (F .ranges) q → (d : Bool) → Fact (length (F .ranges)) (taken q d .right) (taken q d .left) (taken q d .most)
+    fact-of q s true = record { from-is = omega (arith, present-below (F .ranges) (q .right) (s .right-is)); to-is = omega (arith, present-below (F .ranges) (q .left) (s .left-is)); high = omega (arith, s .high); low = s .low }
+    fact-of q s false = record {
+      from-is = omega (arith, present-below (F .ranges) (q .left) (s .left-is));
+      to-is = omega (arith, present-below (F .ranges) (q .right) (s .right-is));
+      high = omega (arith, +up (negℤ (q .most)) (negsuc 0), neg-up (q .most), s .low);
+      low = omega (arith, +dn (negℤ (q .most)) (negsuc 0), neg-dn (q .most), s .high);
+    }
+
+    pub ready : (g near : Grid) → g ≡ start mostVertices (F .ranges) → NearStarts (suc (length (F .ranges))) (F .ranges) near → Ready (length (F .ranges)) ls rs ms g near
+    ready g near e s = record {
+      few = p .vertices;
+      as-long = (omega (arith, lengths .0, lengths .2), omega (arith, lengths .1, lengths .2), omega (arith, lengths .2, c .few-is, p .few-places));
+      facts = λ i h d. subst (λ q. Fact (length (F .ranges)) (taken q d .right) (taken q d .left) (taken q d .most)) (place-is i (placeAt ls rs ms i) h) (fact-of (getD (places (F .program)) i (placeAt ls rs ms i)) (place-at (places (F .program)) (SmallPlace (F .ranges)) (p .places-small) i (placeAt ls rs ms i) (omega (arith, lengths .2, c .few-is))) d);
+      closed = rw e (s .closed);
+      kept = rw e (record { ceiling = start-far mostVertices (F .ranges); floor = bounds-start mostVertices (F .ranges) (p .ranges-small) .floor });
+    }
+
+    ends : (ps : List Place) → Every (SmallPlace (F .ranges)) ps → Every (Ends (length (F .ranges)) F) ps
+    ends [] a = tt
+    ends (q ∷ ps) a = ((omega (arith, present-below (F .ranges) (q .left) (a .0 .left-is)), omega (arith, present-below (F .ranges) (q .right) (a .0 .right-is))), ends ps (a .1))
+
+    weaken : (a b : Growth) → Same lastVertex F a b → Same (length (F .ranges)) F a b
+    weaken (shut t) (shut u) s = s
+    weaken (shut t) (openAt y) s = s
+    weaken (openAt x) (shut u) s = s
+    weaken (openAt x) (openAt y) s = λ v h. s v (omega (arith, p .vertices))
+
+    -- from the root the code's rule is the writer's
+    pub planted : (truths : List ℕ) (g near : Grid) → g ≡ start mostVertices (F .ranges) → NearStarts (suc (length (F .ranges))) (F .ranges) near → (old : List ℕ) (s : Spot) (new : List ℕ) (r : Grown) → Grows (length (F .ranges)) old s (fastAt (length (F .ranges)) F 0 truths g near) new r → Grows (length (F .ranges)) old s (growTree lastVertex F) new r
+    planted truths g near e n old s new r h =
+        let m = length (F .ranges) in
+        let by-table = fast m F (places (F .program)) [] (start mostVertices (F .ranges)) (weight near) in
+        let by-sums = fast m F (places (F .program)) [] (start mostVertices (F .ranges)) (nearStart (F .ranges)) in
+        grows-same m F (growTree lastVertex F) by-sums (weaken (growTree lastVertex F) by-sums (fast-formula lastVertex F (fit F p) (p .ranges-some))) old s new r
+        (grows-same m F by-sums by-table (fast-table m F (places (F .program)) [] (start mostVertices (F .ranges)) (nearStart (F .ranges)) (weight near) (λ u v hu hv. sym (n .same u v hu hv)) (ends (places (F .program)) (p .places-small))) old s new r
+        (subst (λ x. Grows m old s (fast m F (places (F .program)) [] x (weight near)) new r) e h))
+
+    -- as the code hands it on
+    pub root-ready : (last : ℕ) → last ≡ length (F .ranges) → (g near : Grid) → g ≡ start mostVertices (F .ranges) → NearStarts (suc (length (F .ranges))) (F .ranges) near → Ready last ls rs ms g near
+    root-ready last e g near d s = subst (λ m. Ready m ls rs ms g near) (sym e) (ready g near d s)
+
+    pub root-grows : (last decided : ℕ) → last ≡ length (F .ranges) → decided ≡ 0 → (truths : List ℕ) (g near : Grid) → g ≡ start mostVertices (F .ranges) → NearStarts (suc (length (F .ranges))) (F .ranges) near → (old : List ℕ) (s : Spot) (new : List ℕ) (r : Grown) → Grows last old s (fastAt last F decided truths g near) new r → Grows (length (F .ranges)) old s (growTree lastVertex F) new r
+    root-grows last decided e f truths g near d s old spot new r h = planted truths g near d s old spot new r (subst (λ m. Grows m old spot (fastAt m F 0 truths g near) new r) e (subst (λ k. Grows last old spot (fastAt last F k truths g near) new r) f h))
+
+-- the closure that the code made is that of the ranges
+pub near-of : (rs : Ranges) (count : ℕ) (flags : List Bool) (lo hi : List ℤ) (near : Grid) → Ranging rs count flags lo hi → NearStarts count (rangesFrom flags lo hi 1 (count - 1)) near → NearStarts (suc (length rs)) rs near
+near-of rs count flags lo hi near r s = subst (λ k. NearStarts k rs near) (r .count-is) (subst (λ x. NearStarts count x near) (ranges-are rs count flags lo hi r) s)

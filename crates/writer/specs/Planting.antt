@@ -1,0 +1,36 @@
+-- A compiled formula part by part, as the writer's code takes it.
+use Prim.Native.Nat.{ℕ, suc}
+use mathlib.Core.Path.{_≡_}
+use mathlib.Core.Bool.{Bool, false}
+use mathlib.Core.Option.{none, some}
+use mathlib.Core.List.{List, map}
+use lib.ListN.{length, getD, take}
+use lib.IntN.{ℤ, pos}
+use Rattle.meaning.specs.Contents.{Range}
+use Rattle.formula.specs.Formulas.{Formula}
+use Rattle.formula.specs.Program.{kindsOf, places}
+use Rattle.formula.specs.Vertices.{Ranges, present}
+use Rattle.formula.proofs.Proper.{Proper}
+
+-- the first n kinds and the first so many places are the program's
+pub record Coded (F : Formula) (kinds : List ℕ) (n : ℕ) (left right : List ℕ) (most : List ℤ) (few : ℕ) : Type 0 where
+  pub kinds-are : take n kinds ≡ kindsOf (F .program)
+  pub left-are : take few left ≡ map (λ a. a .left) (places (F .program))
+  pub right-are : take few right ≡ map (λ a. a .right) (places (F .program))
+  pub most-are : take few most ≡ map (λ a. a .most) (places (F .program))
+  pub n-is : n ≡ length (F .program)
+  pub few-is : few ≡ length (places (F .program))
+
+-- the flags say which vertices there are, the two lists what they range over
+pub record Ranging (rs : Ranges) (count : ℕ) (flags : List Bool) (lo hi : List ℤ) : Type 0 where
+  pub count-is : count ≡ suc (length rs)
+  pub agree : (k : ℕ) → getD flags k false ≡ present rs k
+  pub lows : (k : ℕ) (g : Range) → getD rs k none ≡ some g → getD lo (suc k) (pos 0) ≡ g .lo
+  pub highs : (k : ℕ) (g : Range) → getD rs k none ≡ some g → getD hi (suc k) (pos 0) ≡ g .hi
+
+-- it is some formula's, and that is proper
+pub record Plantable (kinds : List ℕ) (n : ℕ) (left right : List ℕ) (most : List ℤ) (few count : ℕ) (flags : List Bool) (lo hi : List ℤ) : Type 0 where
+  pub formula : Formula
+  pub coded : Coded formula kinds n left right most few
+  pub ranging : Ranging (formula .ranges) count flags lo hi
+  pub proper : Proper formula

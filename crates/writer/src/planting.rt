@@ -1,0 +1,47 @@
+// A formula's tree from its root.
+use crate::growing::Grown;
+use crate::growing::grow;
+use crate::room::Spot;
+use crate::starting::near_start;
+use sheet::facts::start;
+ghost use lib.ListN.{length};
+ghost use Rattle.formula.specs.Formulas.{Formula};
+ghost use Rattle.formula.proofs.Proper.{Proper};
+ghost use Rattle.sheet.specs.Sheet.{lastVertex};
+ghost use Rattle.sheet.specs.Grow.{growTree};
+ghost use Rattle.writer.specs.Growing.{Grows};
+ghost use Rattle.writer.specs.Planting.{Coded, Ranging, Plantable};
+
+pub fn plant(
+    room: &mut [u8],
+    spot: Spot,
+    kinds: [u8; 320],
+    n: usize,
+    left: [u8; 120],
+    right: [u8; 120],
+    most: [i64; 120],
+    few: usize,
+    count: usize,
+    flags: [bool; 17],
+    lo: [i64; 17],
+    hi: [i64; 17],
+) -> Grown
+    requires { ⌜ Plantable kinds n left right most few count flags lo hi ⌝ }
+    ensures { λ r. ⌜ ((F : Formula) → Coded F kinds n left right most few → Ranging (F .ranges) count flags lo hi → Proper F → Grows (length (F .ranges)) (now (room .entry)) spot (growTree lastVertex F) (now (room .exit)) r) ⌝ }
+{
+    let facts = start(flags, lo, hi);
+    let near = near_start(count, flags, lo, hi);
+    grow(
+        room,
+        spot,
+        &kinds[..n],
+        &left[..few],
+        &right[..few],
+        &most[..few],
+        count - 1,
+        few,
+        [0; 120],
+        facts,
+        near,
+    )
+}
