@@ -3,3 +3,4 @@ pub mod Growths
 pub mod Halves
 pub mod Starts
 pub mod Plants
+pub mod ShownRows

@@ -2,3 +2,4 @@ pub mod Room
 pub mod Growing
 pub mod Starting
 pub mod Planting
+pub mod Showing

@@ -2,4 +2,5 @@
 mod growing;
 mod planting;
 mod room;
+mod showing;
 mod starting;
