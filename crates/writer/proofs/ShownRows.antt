@@ -21,7 +21,7 @@ use Rattle.formula.specs.Program as P
 use Rattle.formula.specs.Seen.{rowSight}
 use Rattle.formula.proofs.Shapes.{columns-length}
 use Rattle.sheet.specs.Rows.{width, fields, putRow, firstRow, secondRow, bytesOfRow, fixed, matches}
-use Rattle.sheet.proofs.Allowed.{getD-some}
+use Rattle.sheet.proofs.Allowed.{getD-some, row-before, row-past}
 use Rattle.sheet.proofs.Columns.{tabulate-length, Wide, first-value, second-value}
 use Rattle.sheet.proofs.Inserted.{orElse}
 use Rattle.sheet.proofs.Values.{equal-is, look-tabulate, tabulate-is}
@@ -41,9 +41,19 @@ pads-after zero l c h = let e : c - 0 ≡ c = omega arith in rw e
 pads-after (suc n) l zero h = absurd (omega arith)
 pads-after (suc n) l (suc c) h = let e : suc c - suc n ≡ c - n = omega arith in rw e (pads-after n l c (omega arith))
 
-pub row-holds : (first width c : ℕ) (vs : Values) (z : ℤ) → first ≤ c → c - first < width → width ≤ length vs → look vs (c - first) ≡ orElse (getD (replicate first none ++ map some (take width vs)) c none) z
-row-holds first width c vs z h w l =
-    sym (ap (λ o. orElse o z) (pads-after first (map some (take width vs)) c h ∙ getD-some (take width vs) (c - first) (omega (arith, length-take-le width vs l)) ∙ ap some (getD-take width vs (c - first) (pos 0) w)))
+module _ (first width c : ℕ) (vs : Values) (z : ℤ) where
+  abbrev found : Option ℤ
+  found = getD (replicate first none ++ map some (take width vs)) c none
+
+  pub stays-before : c < first → z ≡ orElse found z
+  stays-before h = allowed-stays found z (row-before first width c vs z h)
+
+  pub stays-past : first ≤ c → width ≤ c - first → z ≡ orElse found z
+  stays-past h w = allowed-stays found z (row-past first width c vs z h w)
+
+  pub row-holds : first ≤ c → c - first < width → width ≤ length vs → look vs (c - first) ≡ orElse found z
+  row-holds h w l =
+      sym (ap (λ o. orElse o z) (pads-after first (map some (take width vs)) c h ∙ getD-some (take width vs) (c - first) (omega (arith, length-take-le width vs l)) ∙ ap some (getD-take width vs (c - first) (pos 0) w)))
 
 -- ---- a row's columns
 

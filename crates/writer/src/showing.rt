@@ -6,7 +6,7 @@ use ints::weights::wide;
 use question::types::Question;
 use question::types::Row;
 use question::types::Verb;
-ghost use Prim.Native.Nat.{ℕ, suc, _≤_, _<_};
+ghost use Prim.Native.Nat.{ℕ, _≤_, _<_};
 ghost use mathlib.Core.Path.{_≡_};
 ghost use mathlib.Core.Option.{none, some};
 ghost use mathlib.Core.List.{[], _++_, map};
@@ -109,7 +109,14 @@ fn value_at(q: Question, i: usize, second: bool, values: [i64; 17], c: usize) ->
 }
 
 // A row of formula i.
-fn put_row(room: &mut [u8], spot: Spot, q: Question, i: usize, second: bool, values: [i64; 17]) -> Spot
+fn put_row(
+    room: &mut [u8],
+    spot: Spot,
+    q: Question,
+    i: usize,
+    second: bool,
+    values: [i64; 17],
+) -> Spot
     requires { ⌜ Showable q i ⌝ }
     ensures { λ r. ⌜ filling (now (room .exit)) r ≡ puts (filling (now (room .entry)) spot) (bytesOfRow (rowFor (questionOf q) i second (look values))) ⌝ }
 {
@@ -124,7 +131,14 @@ fn put_row(room: &mut [u8], spot: Spot, q: Question, i: usize, second: bool, val
 }
 
 // The first row, and the second where there are two.
-fn put_rows(room: &mut [u8], spot: Spot, q: Question, i: usize, pairs: bool, values: [i64; 17]) -> Spot
+fn put_rows(
+    room: &mut [u8],
+    spot: Spot,
+    q: Question,
+    i: usize,
+    pairs: bool,
+    values: [i64; 17],
+) -> Spot
     requires { ⌜ Showable q i ⌝ }
     ensures { λ r. ⌜ filling (now (room .exit)) r ≡ puts (filling (now (room .entry)) spot) (bytesOfRow (rowsFor (questionOf q) i pairs (look values))) ⌝ }
 {
@@ -136,7 +150,14 @@ fn put_rows(room: &mut [u8], spot: Spot, q: Question, i: usize, pairs: bool, val
 }
 
 // Formula i is open, with these values at its vertices.
-pub fn put_refutation(room: &mut [u8], spot: Spot, q: Question, i: u8, pairs: bool, values: [i64; 17]) -> Spot
+pub fn put_refutation(
+    room: &mut [u8],
+    spot: Spot,
+    q: Question,
+    i: u8,
+    pairs: bool,
+    values: [i64; 17],
+) -> Spot
     requires { ⌜ Showable q i ⌝ }
     ensures { λ r. ⌜ ((F : Formula) (x : Values) → F .pairs ≡ pairs → Alike (fields (questionOf q) F) values x → filling (now (room .exit)) r ≡ puts (filling (now (room .entry)) spot) (noBytes (questionOf q) i F x)) ⌝ }
 {
