@@ -21,3 +21,6 @@ pub mod Ranging
 pub mod Shown
 pub mod VertexLaws
 pub mod Troubled
+pub mod PutIns
+pub mod Numbered
+pub mod Ready

@@ -1,17 +1,25 @@
 -- What the code takes for granted of a question when it builds its formulas, and what a formula's parts promise.
 use Prim.Native.Nat.{ℕ}
 use mathlib.Core.Path.{_≡_}
-use mathlib.Core.Bool.{Bool, false}
+use mathlib.Core.Bool.{Bool, true, false, cond}
 use mathlib.Core.List.{List, [], map}
 use lib.ListN.{length, getD, take}
-use Rattle.meaning.specs.Limits.{mostColumns}
+use lib.IntN.{ℤ}
+use lib.Dec.{eqb}
+use Rattle.meaning.specs.Limits.{mostColumns, mostRows}
 use Rattle.meaning.specs.Condition as M
-use Rattle.meaning.specs.Contents.{Mode}
+use Rattle.meaning.specs.Contents.{Mode, become}
+use Rattle.meaning.specs.Contents as M'
 use Rattle.meaning.specs.WellFormed.{Reads}
 use Rattle.question.specs.Held.{conditionOf, settingOf}
+use Rattle.question.specs.Held as H
 use Rattle.question.specs.declared.types.Question.{Question}
+use Rattle.question.specs.declared.types.Setting.{Setting}
+use Rattle.question.specs.declared.types.Row.{Row}
+use Rattle.question.specs.declared.types.Verb.{Verb}
+use Rattle.question.specs.declared.types.Verb.the-variants.{Insert, Delete, Modify}
 use Rattle.formula.specs.Formulas as F
-use Rattle.formula.specs.Seen.{There, Whole, Usable}
+use Rattle.formula.specs.Seen.{There, Whole, Usable, modesOf}
 use Rattle.formula.specs.Partway.{Ready}
 use Rattle.formula.specs.declared.types.Sight.{Sight}
 
@@ -27,6 +35,7 @@ deed q = conditionOf (q .change .condition)
 pub record Able (q : Question) : Type 0 where
   pub whole : Whole q
   pub long : length (q .change .settings) ≡ mostColumns
+  pub rows : length (q .change .rows) ≡ mostRows
   pub listed : Ready q (q .condition)
 
 -- and a delete's condition
@@ -54,3 +63,25 @@ noFormula = record { ranges = []; pairs = false; program = [] }
 
 abbrev pub formulaAt : List F.Formula → ℕ → F.Formula
 formulaAt l i = getD l i noFormula
+
+-- settings that put the values in
+pub record Becomes (vs : List ℤ) (ss : List Setting) : Type 0 where
+  pub long : length ss ≡ mostColumns
+  pub modes : map settingOf ss ≡ map become vs
+
+-- the first row with an inserted row's values put in
+pub record PutIn (q : Question) (row : Row) (r : Sight) : Type 0 where
+  pub usable : Usable q r
+  pub moves : r .moved ≡ true
+  pub first : r .second ≡ false
+  pub modes : modesOf q r ≡ map become (H.rowOf (q .shape .width) row)
+
+-- what its change asks
+abbrev pub Buildable : Verb → Question → Type 0
+Buildable Insert q = Able q
+Buildable Delete q = Chooses q
+Buildable Modify q = Modifies q
+
+-- the formulas of a change, as asked
+abbrev pub askedOf : ℕ → M'.Question → M'.Change → List F.Formula
+askedOf asked q ch = cond (eqb asked 1) (F.irrelevance q ch) (F.computability q ch)

@@ -1,0 +1,77 @@
+// A formula of a question by its number.
+use crate::inserting::inserted;
+use crate::troubles::both_move;
+use crate::troubles::enters;
+use crate::troubles::leaves;
+use crate::troubles::one_moves;
+use crate::troubles::one_removed;
+use crate::troubles::one_stays;
+use crate::troubles::removed;
+use crate::troubles::shows;
+use crate::types::Formula;
+use question::types::Question;
+use question::types::Verb;
+ghost use Prim.Native.Nat.{_<_};
+ghost use lib.ListN.{length};
+ghost use Rattle.meaning.specs.Contents.{delete, modify};
+ghost use Rattle.question.specs.Held.{questionOf, Held};
+ghost use Rattle.question.specs.Accepted.{Accepted};
+ghost use Rattle.formula.specs.Formulas.{formulas};
+ghost use Rattle.formula.specs.Spans.{Compiled};
+ghost use Rattle.formula.specs.Able.{Chooses, Modifies, Buildable, deed, settledModes, formulaAt, askedOf};
+
+pub fn deleted(q: Question, asked: u8) -> Formula
+    requires { ⌜ Chooses q ⌝ }
+    ensures { λ r. ⌜ Compiled r (formulaAt (askedOf asked (questionOf q) (delete (deed q))) 0) ⌝ }
+{
+    if asked == 1 {
+        return removed(q);
+    }
+    one_removed(q)
+}
+
+pub fn modified(q: Question, asked: u8, i: usize) -> Formula
+    requires { ⌜ Modifies q × (i < length (askedOf asked (questionOf q) (modify (deed q) (settledModes q)))) ⌝ }
+    ensures { λ r. ⌜ Compiled r (formulaAt (askedOf asked (questionOf q) (modify (deed q) (settledModes q))) i) ⌝ }
+{
+    if asked == 1 {
+        if i == 0 {
+            return leaves(q);
+        }
+        if i == 1 {
+            return enters(q);
+        }
+        return shows(q);
+    }
+    if i == 0 {
+        return enters(q);
+    }
+    if i == 1 {
+        return one_stays(q);
+    }
+    if i == 2 {
+        return both_move(q);
+    }
+    one_moves(q)
+}
+
+pub fn built(q: Question, asked: u8, i: usize) -> Formula
+    requires { ⌜ Buildable (q .change .verb) q × (i < length (formulas (questionOf q) asked)) ⌝ }
+    ensures { λ r. ⌜ Compiled r (formulaAt (formulas (questionOf q) asked) i) ⌝ }
+{
+    let change = q.change;
+    let verb = change.verb;
+    match verb {
+        Verb::Insert => inserted(q, i),
+        Verb::Delete => deleted(q, asked),
+        Verb::Modify => modified(q, asked, i),
+    }
+}
+
+// Formula i of an accepted question.
+pub fn formula(q: Question, asked: u8, i: usize) -> Formula
+    requires { ⌜ Held q × Accepted (questionOf q) × (i < length (formulas (questionOf q) asked)) ⌝ }
+    ensures { λ r. ⌜ Compiled r (formulaAt (formulas (questionOf q) asked) i) ⌝ }
+{
+    built(q, asked, i)
+}
