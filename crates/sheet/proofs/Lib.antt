@@ -31,3 +31,4 @@ pub mod FieldRun
 pub mod Valued
 pub mod Truths
 pub mod Starting
+pub mod Lends

@@ -15,9 +15,9 @@ use Rattle.formula.specs.Known.{knownKinds}
 use Rattle.formula.specs.Program.{Place, places, kindsOf}
 use Rattle.formula.specs.Formulas.{Formula}
 use Rattle.formula.proofs.Knows.{known-kinds}
-use Rattle.sheet.specs.Facts.{decide}
+use Rattle.sheet.specs.Facts.{start, decide}
 use Rattle.sheet.specs.Sheet.{lastVertex}
-use Rattle.sheet.specs.Tree.{Outcome, passed, refused, andThen, falseNode, cycleNode, check}
+use Rattle.sheet.specs.Tree.{Outcome, passed, refused, andThen, falseNode, cycleNode, check, checkTree}
 use Rattle.sheet.specs.Checking.{Lent, checkLeft}
 use Rattle.sheet.proofs.Steps.{check-false, check-cycle, check-empty, check-split, check-split-none}
 
@@ -113,3 +113,8 @@ module _ (F : Formula) (truths : List ℕ) (g : Grid) (part : List ℕ) (at base
 
         pub left-both : (p : ℕ) (r : Outcome) → passed (base + p) (drop p part) ≡ checkLeft F (todo - 1) (set truths d 1) (decide g (placeAt ls rs ms d) true) (base + (at + 1)) (drop (at + 1) part) → r ≡ checkLeft F (todo - 1) (set (set truths d 1) d 0) (decide g (placeAt ls rs ms d) false) (base + p) (drop p part) → r ≡ Here
         left-both p r x y = (rw (set-set truths d 1 0) at y) ∙ below 0 (base + p) (drop p part) ∙ after-first (passed (base + p) (drop p part)) x
+
+-- with every place left the check is that of the whole tree
+pub left-all : (F : Formula) (todo : ℕ) (truths : List ℕ) (at : ℕ) (bs : List ℕ) → todo ≡ length (places (F .program)) → checkLeft F todo truths (start mostVertices (F .ranges)) at bs ≡ checkTree mostVertices F at bs
+unfolding checkLeft
+left-all F todo truths at bs e = let d : length (places (F .program)) - todo ≡ 0 = omega arith in rw d

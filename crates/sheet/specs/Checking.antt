@@ -12,6 +12,9 @@ use Rattle.grid.specs.Grid.{Grid, farN, least-weight, Bounded, AllWithin}
 use Rattle.grid.specs.Walk.{Below}
 use Rattle.formula.specs.Program.{places, kindsOf}
 use Rattle.formula.specs.Formulas.{Formula}
+use Rattle.formula.specs.Spans.{Compiled}
+use Rattle.formula.specs.declared.types.Formula as compiled
+use Rattle.formula.proofs.Proper.{Proper}
 use Rattle.formula.specs.Cells.{bit}
 use Rattle.formula.specs.Vertices.{Ranges, present}
 use Rattle.sheet.specs.declared.nodes.Past.{Past}
@@ -95,3 +98,11 @@ pub record SmallSpans (shown : List Bool) (lo hi : List ℤ) : Type 0 where
 pub record Starts (shown : List Bool) (lo hi : List ℤ) (g : Grid) : Type 0 where
   pub meaning : (rs : Ranges) → Spanned rs shown lo hi → g ≡ start mostVertices rs
   pub small : AllWithin farN mostVertices g
+
+-- ---- a compiled formula, whole
+
+-- it is that of some proper formula: so it fits, and every sum is exact
+pub record Fine (f : compiled.Formula) : Type 0 where
+  pub formula : Formula
+  pub is : Compiled f formula
+  pub proper : Proper formula

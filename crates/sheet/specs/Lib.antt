@@ -10,3 +10,4 @@ pub mod Demands
 pub mod Checking
 pub mod Twelve
 pub mod NoSheet
+pub mod Answered
