@@ -24,3 +24,4 @@ pub mod Troubled
 pub mod PutIns
 pub mod Numbered
 pub mod Ready
+pub mod Counted

@@ -23,7 +23,7 @@ unfolding questionOf questionFrom
 change-is q = refl
 
 module _ (q : Question) (asked : ℕ) where
-  by : (v : Verb) → q .change .verb ≡ v → F.formulas (questionOf q) asked ≡ askedOf asked (questionOf q) (changeBy v (q .shape .width) (q .change))
+  pub by : (v : Verb) → q .change .verb ≡ v → F.formulas (questionOf q) asked ≡ askedOf asked (questionOf q) (changeBy v (q .shape .width) (q .change))
   by v e = ap (λ ch. askedOf asked (questionOf q) ch) (change-is q ∙ ap (λ v. changeBy v (q .shape .width) (q .change)) e)
 
   pub by-delete : q .change .verb ≡ Delete → F.formulas (questionOf q) asked ≡ askedOf asked (questionOf q) (delete (deed q))

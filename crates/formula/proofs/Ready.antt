@@ -23,7 +23,7 @@ module _ (q : Question) (h : Held q) (a : length (q .columns) ≡ 8) (b : length
   there : (P : (ℕ → Type 0) → Type 0) → P (Exists (questionOf q)) → P (There q)
   there P p = subst (λ n. P (λ i. i < n)) (columns-length q whole) p
 
-  able : Able q
+  pub able : Able q
   able =
       record {
         whole = whole;

@@ -6,7 +6,7 @@ use mathlib.Core.List.{List, [], map}
 use lib.ListN.{length, getD, take}
 use lib.IntN.{ℤ}
 use lib.Dec.{eqb}
-use Rattle.meaning.specs.Limits.{mostColumns, mostRows}
+use Rattle.meaning.specs.Limits.{mostTables, mostColumns, mostRows}
 use Rattle.meaning.specs.Condition as M
 use Rattle.meaning.specs.Contents.{Mode, become}
 use Rattle.meaning.specs.Contents as M'
@@ -85,3 +85,7 @@ Buildable Modify q = Modifies q
 -- the formulas of a change, as asked
 abbrev pub askedOf : ℕ → M'.Question → M'.Change → List F.Formula
 askedOf asked q ch = cond (eqb asked 1) (F.irrelevance q ch) (F.computability q ch)
+
+-- a width for each table
+abbrev pub Widths : Question → Type 0
+Widths q = length (q .shape .widths) ≡ mostTables

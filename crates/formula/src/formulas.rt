@@ -11,6 +11,7 @@ use crate::troubles::shows;
 use crate::types::Formula;
 use question::types::Question;
 use question::types::Verb;
+ghost use mathlib.Core.Path.{_≡_};
 ghost use Prim.Native.Nat.{_<_};
 ghost use lib.ListN.{length};
 ghost use Rattle.meaning.specs.Contents.{delete, modify};
@@ -18,7 +19,7 @@ ghost use Rattle.question.specs.Held.{questionOf, Held};
 ghost use Rattle.question.specs.Accepted.{Accepted};
 ghost use Rattle.formula.specs.Formulas.{formulas};
 ghost use Rattle.formula.specs.Spans.{Compiled};
-ghost use Rattle.formula.specs.Able.{Chooses, Modifies, Buildable, deed, settledModes, formulaAt, askedOf};
+ghost use Rattle.formula.specs.Able.{Able, Widths, Chooses, Modifies, Buildable, deed, settledModes, formulaAt, askedOf};
 
 pub fn deleted(q: Question, asked: u8) -> Formula
     requires { ⌜ Chooses q ⌝ }
@@ -74,4 +75,38 @@ pub fn formula(q: Question, asked: u8, i: usize) -> Formula
     ensures { λ r. ⌜ Compiled r (formulaAt (formulas (questionOf q) asked) i) ⌝ }
 {
     built(q, asked, i)
+}
+
+// "none if the list has one table, else as asked 1"
+pub fn insert_count(q: Question, asked: u8) -> usize
+    requires { ⌜ Able q × Widths q × (q .change .verb ≡ Verb.Insert) ⌝ }
+    ensures { λ r. ⌜ r ≡ length (formulas (questionOf q) asked) ⌝ }
+{
+    let change = q.change;
+    if asked == 1 {
+        return change.count;
+    }
+    if q.shape.tables == 1 {
+        return 0;
+    }
+    change.count
+}
+
+// How many formulas an accepted question has.
+pub fn formula_count(q: Question, asked: u8) -> usize
+    requires { ⌜ Held q × Accepted (questionOf q) ⌝ }
+    ensures { λ r. ⌜ r ≡ length (formulas (questionOf q) asked) ⌝ }
+{
+    let change = q.change;
+    let verb = change.verb;
+    match verb {
+        Verb::Insert => insert_count(q, asked),
+        Verb::Delete => 1,
+        Verb::Modify => {
+            if asked == 1 {
+                return 3;
+            }
+            4
+        }
+    }
 }
