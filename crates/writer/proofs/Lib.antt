@@ -4,3 +4,4 @@ pub mod Halves
 pub mod Starts
 pub mod Plants
 pub mod ShownRows
+pub mod ShownFormulas
