@@ -5,3 +5,4 @@ pub mod Starts
 pub mod Plants
 pub mod ShownRows
 pub mod ShownFormulas
+pub mod Finds

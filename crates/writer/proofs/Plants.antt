@@ -16,6 +16,8 @@ use Rattle.grid.specs.Grid.{Grid, weight}
 use Rattle.formula.specs.Formulas.{Formula}
 use Rattle.formula.specs.Program.{Place, places}
 use Rattle.formula.specs.Vertices.{Ranges, isSome}
+use Rattle.formula.specs.Spans.{Compiled}
+use Rattle.formula.specs.declared.types.Formula as types
 use Rattle.formula.proofs.Proper.{Proper, SmallRange, Nonempty}
 use Rattle.formula.proofs.Sizes.{billion, SmallPlace}
 use Rattle.sheet.specs.Facts.{start, taken}
@@ -186,3 +188,12 @@ module _ (F : Formula) (kinds : List ℕ) (n : ℕ) (left right : List ℕ) (mos
 -- the closure that the code made is that of the ranges
 pub near-of : (rs : Ranges) (count : ℕ) (flags : List Bool) (lo hi : List ℤ) (near : Grid) → Ranging rs count flags lo hi → NearStarts count (rangesFrom flags lo hi 1 (count - 1)) near → NearStarts (suc (length rs)) rs near
 near-of rs count flags lo hi near r s = subst (λ k. NearStarts k rs near) (r .count-is) (subst (λ x. NearStarts count x near) (ranges-are rs count flags lo hi r) s)
+
+-- ---- a compiled formula, part by part
+
+module _ (f : types.Formula) (F : Formula) (c : Compiled f F) where
+  pub coded-of : Coded F (f .program .kinds) (f .program .count) (f .program .left) (f .program .right) (f .program .most) (f .program .places)
+  coded-of = let m = c .program in record { kinds-are = m .kinds; left-are = m .left; right-are = m .right; most-are = m .most; n-is = m .count; few-is = m .places }
+
+  pub ranging-of : Ranging (F .ranges) (f .vertices .count) (f .vertices .present) (f .vertices .lo) (f .vertices .hi)
+  ranging-of = let v = c .vertices in record { count-is = v .count; agree = v .agree; lows = v .lo; highs = v .hi }

@@ -3,3 +3,4 @@ pub mod Growing
 pub mod Starting
 pub mod Planting
 pub mod Showing
+pub mod Finding

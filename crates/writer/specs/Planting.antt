@@ -10,6 +10,8 @@ use Rattle.meaning.specs.Contents.{Range}
 use Rattle.formula.specs.Formulas.{Formula}
 use Rattle.formula.specs.Program.{kindsOf, places}
 use Rattle.formula.specs.Vertices.{Ranges, present}
+use Rattle.formula.specs.Spans.{Compiled}
+use Rattle.formula.specs.declared.types.Formula as types
 use Rattle.formula.proofs.Proper.{Proper}
 
 -- the first n kinds and the first so many places are the program's
@@ -33,4 +35,10 @@ pub record Plantable (kinds : List ℕ) (n : ℕ) (left right : List ℕ) (most 
   pub formula : Formula
   pub coded : Coded formula kinds n left right most few
   pub ranging : Ranging (formula .ranges) count flags lo hi
+  pub proper : Proper formula
+
+-- a compiled formula that is some proper formula's
+pub record Sowable (f : types.Formula) : Type 0 where
+  pub formula : Formula
+  pub compiled : Compiled f formula
   pub proper : Proper formula

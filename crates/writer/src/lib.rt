@@ -1,4 +1,5 @@
 // The writer of sheets. Its definitions are those of crate sheet.
+mod finding;
 mod growing;
 mod planting;
 mod room;

@@ -3,14 +3,16 @@ use crate::growing::Grown;
 use crate::growing::grow;
 use crate::room::Spot;
 use crate::starting::near_start;
+use formula::types::Formula;
 use sheet::facts::start;
 ghost use lib.ListN.{length};
-ghost use Rattle.formula.specs.Formulas.{Formula};
+ghost use Rattle.formula.specs.Formulas as written;
+ghost use Rattle.formula.specs.Spans.{Compiled};
 ghost use Rattle.formula.proofs.Proper.{Proper};
 ghost use Rattle.sheet.specs.Sheet.{lastVertex};
 ghost use Rattle.sheet.specs.Grow.{growTree};
 ghost use Rattle.writer.specs.Growing.{Grows};
-ghost use Rattle.writer.specs.Planting.{Coded, Ranging, Plantable};
+ghost use Rattle.writer.specs.Planting.{Coded, Ranging, Plantable, Sowable};
 
 pub fn plant(
     room: &mut [u8],
@@ -27,7 +29,7 @@ pub fn plant(
     hi: [i64; 17],
 ) -> Grown
     requires { ⌜ Plantable kinds n left right most few count flags lo hi ⌝ }
-    ensures { λ r. ⌜ ((F : Formula) → Coded F kinds n left right most few → Ranging (F .ranges) count flags lo hi → Proper F → Grows (length (F .ranges)) (now (room .entry)) spot (growTree lastVertex F) (now (room .exit)) r) ⌝ }
+    ensures { λ r. ⌜ ((F : written.Formula) → Coded F kinds n left right most few → Ranging (F .ranges) count flags lo hi → Proper F → Grows (length (F .ranges)) (now (room .entry)) spot (growTree lastVertex F) (now (room .exit)) r) ⌝ }
 {
     let facts = start(flags, lo, hi);
     let near = near_start(count, flags, lo, hi);
@@ -43,5 +45,35 @@ pub fn plant(
         [0; 120],
         facts,
         near,
+    )
+}
+
+// The same of a compiled formula.
+pub fn plant_formula(room: &mut [u8], spot: Spot, f: Formula) -> Grown
+    requires { ⌜ Sowable f ⌝ }
+    ensures { λ r. ⌜ ((F : written.Formula) → Compiled f F → Proper F → Grows (length (F .ranges)) (now (room .entry)) spot (growTree lastVertex F) (now (room .exit)) r) ⌝ }
+{
+    let p = f.program;
+    let v = f.vertices;
+    let kinds = p.kinds;
+    let left = p.left;
+    let right = p.right;
+    let most = p.most;
+    let flags = v.present;
+    let lo = v.lo;
+    let hi = v.hi;
+    plant(
+        room,
+        spot,
+        kinds,
+        p.count,
+        left,
+        right,
+        most,
+        p.places,
+        v.count,
+        flags,
+        lo,
+        hi,
     )
 }
