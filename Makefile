@@ -1,10 +1,16 @@
 # The commands of the project. `make test` is the gate.
-.PHONY: test fmt
+.PHONY: test refusals fmt
 
-# Layout, then every proof, must-fail edit and program run, from nothing. The last line is rt's count.
+# Layout, the tests in Rust, then every proof, must-fail edit and program run, from nothing. The last line is rt's count.
 test:
 	rt fmt --check
+	cargo test --quiet --offline --release --manifest-path rust/Cargo.toml
 	rt ci
+
+# The reader on one byte string for each number that says no, at several places: number and place, a line each.
+refusals:
+	rt check refusals
+	target/bin/refusals
 
 fmt:
 	rt fmt
