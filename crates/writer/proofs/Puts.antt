@@ -27,6 +27,12 @@ puts-next f bs i h = rw (add-one, drop-cons bs i 0 h)
 pub put-over : (f : Filling) (b : ℕ) → f .over ≡ true → f ≡ putOne f b
 put-over f b e = rw e
 
+-- nothing is stored after a byte that found no room
+pub puts-over : (f : Filling) (bs : List ℕ) → f .over ≡ true → puts f bs ≡ f
+unfolding puts
+puts-over f [] e = refl
+puts-over f (b ∷ bs) e = rw (← put-over f b e) (puts-over f bs e)
+
 pub put-fits : (f : Filling) (b : ℕ) → f .over ≡ false → f .at < length (f .bytes) → record { bytes = set (f .bytes) (f .at) b; at = f .at + 1; over = false } ≡ putOne f b
 put-fits f b e h = rw (e, lt-ltb (f .at) (length (f .bytes)) h)
 
@@ -51,9 +57,7 @@ puts-length f (b ∷ bs) = puts-length (putOne f b) bs ∙ one-length f b
 -- ---- what stands in the room
 
 over-stays : (f : Filling) (bs : List ℕ) → f .over ≡ true → puts f bs .over ≡ true
-unfolding puts
-over-stays f [] e = e
-over-stays f (b ∷ bs) e = over-stays (putOne f b) bs (rw e)
+over-stays f bs e = rw (puts-over f bs e) e
 
 -- bytes that fit, after those that stand there
 pub record Stand (f : Filling) (bs : List ℕ) (g : Filling) : Type 0 where

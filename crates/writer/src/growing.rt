@@ -60,11 +60,15 @@ fn known_so_far(kinds: &[u8], truths: [u8; 120], decided: usize) -> Truth
     known(kinds, &truths[..decided])
 }
 
-// Node 2, by the search.
+// Node 2, by the search, which is left out where a byte found no room: nothing more would be stored.
 fn put_search(room: &mut [u8], spot: Spot, g: [[i64; 17]; 17], last: usize) -> Spot
     requires { ⌜ (last < 17) × Kept g ⌝ }
     ensures { λ r. ⌜ filling (now (room .exit)) r ≡ puts (filling (now (room .entry)) spot) (bytesOf (cycle (cycleOf (search (weight g) last)))) ⌝ }
 {
+    let over = spot.over;
+    if over {
+        return spot;
+    }
     let c = search(g, last + 1);
     let vertices = c.vertices;
     put_cycle(room, spot, vertices, c.count)

@@ -1,7 +1,7 @@
 // The writer of sheets. Its definitions are those of crate sheet.
-mod finding;
+pub mod finding;
 mod growing;
 mod planting;
-mod room;
-mod showing;
+pub mod room;
+pub mod showing;
 mod starting;
