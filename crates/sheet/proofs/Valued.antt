@@ -1,8 +1,8 @@
 -- The values of a no sheet at the vertices, one field at a time; and the truth of every place at them.
 use Prim.Native.Nat.{ℕ, zero, suc, _+_, _≤_, _<_}
-use mathlib.Core.Path.{_≡_, refl, sym, ap, _∙_}
+use mathlib.Core.Path.{_≡_, refl, sym, ap, ap₂, _∙_}
 use mathlib.Core.Bool.{Bool, true, false, cond}
-use mathlib.Core.List.{List, [], _∷_}
+use mathlib.Core.List.{List, [], _∷_, _++_, append-nil}
 use native.Mathlib.Numerals.{add-one}
 use native.Mathlib.Omega.{arith}
 use borrow.Author.Tests.{lt-ltb, le-ltb, ltb-true, ltb-false, eqb-true, eqb-false}
@@ -15,7 +15,9 @@ use mir.Val.{SFits}
 use Rattle.ints.proofs.Machine.{machine, of-fits}
 use Rattle.grid.specs.Grid.{Bounded, least-weight}
 use Rattle.formula.specs.Cells.{bit}
-use Rattle.sheet.specs.Rows.{valueAt}
+use Rattle.meaning.specs.Contents.{Question}
+use Rattle.formula.specs.Formulas.{Formula, tabulate}
+use Rattle.sheet.specs.Rows.{width, fields, valueAt, readValues}
 use Rattle.sheet.specs.NoSheet.{seen, Small, testAt}
 
 -- ---- the array of values
@@ -60,6 +62,41 @@ seen-more s x j l h (suc k) = go (eqb k j) refl
           where
             beyond : j ≤ k → j + 1 ≤ k
             beyond b = omega (arith, eqb-false k j e)
+
+-- ---- what the fields of a formula's rows stand for
+
+tabulate-alike : (n : ℕ) (f g : ℕ → ℤ) → ((i : ℕ) → f i ≡ g i) → tabulate n f ≡ tabulate n g
+unfolding tabulate
+tabulate-alike zero f g e = refl
+tabulate-alike (suc n) f g e = ap₂ _∷_ (e 0) (tabulate-alike n (λ i. f (suc i)) (λ i. g (suc i)) (λ i. e (suc i)))
+
+-- the two rows are one list
+tabulate-more : (n m k : ℕ) (f g : ℕ → ℤ) → k ≡ n + m → ((c : ℕ) → g c ≡ f (n + c)) → tabulate n f ++ tabulate m g ≡ tabulate k f
+unfolding tabulate
+tabulate-more zero m k f g l e = let d : k ≡ m = omega arith in rw d (tabulate-alike m g f (λ c. e c ∙ ap f (omega arith)))
+tabulate-more (suc n) m zero f g l e = absurd (omega arith)
+tabulate-more (suc n) m (suc k) f g l e = ap (λ r. f 0 ∷ r) (tabulate-more n m k (λ i. f (suc i)) g (omega arith) (λ c. e c ∙ ap f (omega arith)))
+
+tabulate-at : (n : ℕ) (f : ℕ → ℤ) (j : ℕ) → cond (ltb j n) (f j) (pos 0) ≡ getD (tabulate n f) j (pos 0)
+unfolding tabulate
+tabulate-at zero f j = rw (le-ltb j 0 (omega arith))
+tabulate-at (suc n) f zero = rw (lt-ltb 0 (suc n) (omega arith))
+tabulate-at (suc n) f (suc j) = ap (λ b. cond b (f (suc j)) (pos 0)) (same (ltb j n) refl) ∙ tabulate-at n (λ i. f (suc i)) j
+  where
+    same : (b : Bool) → ltb j n ≡ b → ltb (suc j) (suc n) ≡ ltb j n
+    same true t = lt-ltb (suc j) (suc n) (omega (arith, ltb-true j n t)) ∙ sym t
+    same false t = le-ltb (suc j) (suc n) (omega (arith, ltb-false j n t)) ∙ sym t
+
+pub seen-read : (q : Question) (F : Formula) (s : List ℕ) (v : ℕ) → seen s (fields q F) v ≡ readValues q F s v
+seen-read q F s zero = refl
+seen-read q F s (suc j) = go (F .pairs)
+  where
+    w : ℕ
+    w = width q
+
+    go : (b : Bool) → cond (ltb j (cond b (w + w) w)) (valueAt s j) (pos 0) ≡ getD (tabulate w (valueAt s) ++ cond b (tabulate w (λ c. valueAt s (w + c))) []) j (pos 0)
+    go true = rw (tabulate-more w w (w + w) (valueAt s) (λ c. valueAt s (w + c)) refl (λ c. refl)) (tabulate-at (w + w) (valueAt s) j)
+    go false = rw (append-nil (tabulate w (valueAt s))) (tabulate-at w (valueAt s) j)
 
 -- ---- the places
 
