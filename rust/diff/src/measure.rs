@@ -42,24 +42,13 @@ fn mean(run: impl Fn() -> Option<f64>) -> Option<f64> {
     Some(total / f64::from(runs))
 }
 
-/// The processor seconds that a process or thread has used, by its folder in /proc.
-fn used(folder: &str) -> f64 {
-    let text = read_to_string(format!("{folder}/schedstat")).expect("Linux tells processor times");
-    let nanoseconds = text.split_whitespace().next().and_then(|word| word.parse::<f64>().ok());
-    nanoseconds.expect("a number") / 1e9
-}
-
 /// Runs the load often enough for the kernel's clock, which may stand still for some milliseconds.
 fn ours(load: &Load, verdict: impl Fn(u8, &[u8]) -> Result<Verdict, Refusal>) -> f64 {
-    let begun = used("/proc/thread-self");
-    let mut runs = 0;
-    while used("/proc/thread-self") < begun + 0.05 {
+    clock::each(0.05, || {
         for asked in &load.questions {
             assert_eq!(verdict(asked.asked, &asked.bytes), Ok(asked.verdict));
         }
-        runs += 1;
-    }
-    (used("/proc/thread-self") - begun) / f64::from(runs)
+    })
 }
 
 /// The time of a process with the whole load, less that of one with nothing to do.
@@ -111,7 +100,7 @@ fn run_z3(script: &str) -> Option<(String, f64)> {
     while !read_to_string(format!("{folder}/stat")).ok()?.contains(") Z ") {
         std::thread::yield_now();
     }
-    let seconds = used(&folder);
+    let seconds = clock::used(&folder);
     child.wait().ok()?;
     Some((answers, seconds))
 }
