@@ -1,0 +1,4 @@
+pub mod Asks
+pub mod Lays
+pub mod Places
+pub mod Promises
