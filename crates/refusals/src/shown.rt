@@ -18,10 +18,8 @@ pub fn with_int(b: [u8; 112], at: usize, z: i32) -> [u8; 112] {
 }
 
 fn print(number: u8, place: usize) {
-    io::print_decimal(1, number as u64);
-    io::write_all(1, b" ");
-    io::print_decimal(1, place as u64);
-    io::write_all(1, b"\n");
+    printing::words::refusal(number, place);
+    printing::line_end();
 }
 
 // The answer to some bytes.
@@ -30,7 +28,7 @@ fn answer(s: &[u8]) {
     let a = r.answer;
     match a {
         Answer::Good => {
-            io::write_all(1, b"good\n");
+            printing::text(b"good\n");
         }
         Answer::Refused(number, place) => print(number, place),
     }
