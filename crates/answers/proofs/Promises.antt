@@ -1,13 +1,12 @@
 -- Two results that a contract allows are equal: the contracts leave nothing open.
 use Prim.Native.Nat.{ℕ}
-use mathlib.Core.Path.{_≡_, refl, sym, ap, _∙_}
+use mathlib.Core.Path.{_≡_, sym, ap, _∙_}
 use mathlib.Core.List.{List}
 use native.Mathlib.Omega.{arith}
 use Rattle.sheet.specs.Answered as answered
 use Rattle.sheet.specs.Answers.{verdictOf, writeOf}
 use Rattle.sheet.specs.Demands.{Unique}
-use Rattle.sheet.specs.declared.types.Verdict.{Verdict}
-use Rattle.sheet.specs.declared.types.Verdict.the-variants.{Yes, No}
+use Rattle.sheet.proofs.Alike.{same-verdict}
 use Rattle.answers.specs.Told.{judgedOf, writtenOf, doneOf}
 use Rattle.answers.specs.declared.types.Judged.{Judged}
 use Rattle.answers.specs.declared.types.Judged.the-variants as judged
@@ -15,12 +14,6 @@ use Rattle.answers.specs.declared.types.Written.{Written}
 use Rattle.answers.specs.declared.types.Written.the-variants as written
 
 -- ---- an answer is known by what it means
-same-verdict : (v w : Verdict) → answered.verdictOf v ≡ answered.verdictOf w → v ≡ w
-same-verdict Yes Yes e = refl
-same-verdict Yes No e = absurd (let z : _≡_ {A = ℕ} 0 1 = cc in omega arith)
-same-verdict No Yes e = absurd (let z : _≡_ {A = ℕ} 0 1 = cc in omega arith)
-same-verdict No No e = refl
-
 same-judged : (r r' : Judged) → judgedOf r ≡ judgedOf r' → r ≡ r'
 same-judged (judged.Says v) (judged.Says w) e = let d : answered.verdictOf v ≡ answered.verdictOf w = cc in ap judged.Says (same-verdict v w d)
 same-judged (judged.Says v) (judged.Refused n p) e = absurd (let z : _≡_ {A = ℕ} 0 1 = cc in omega arith)

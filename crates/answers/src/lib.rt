@@ -1,15 +1,14 @@
 // The public routines over bytes: the verdict, and the sheet that shows it.
-mod asking;
 mod finishing;
 mod laying;
 pub mod types;
 
-use crate::asking::ask;
 use crate::finishing::finish;
 use crate::finishing::judge;
 use crate::types::Judged;
 use crate::types::Written;
 use question::types::Answer;
+use sheet::asking::ask;
 ghost use mathlib.Core.Path.{_≡_};
 ghost use Rattle.sheet.specs.Answers.{verdictOf, writeOf};
 ghost use Rattle.answers.specs.Told.{judgedOf, doneOf};

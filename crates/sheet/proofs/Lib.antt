@@ -32,3 +32,5 @@ pub mod Valued
 pub mod Truths
 pub mod Starting
 pub mod Lends
+pub mod Asks
+pub mod Alike

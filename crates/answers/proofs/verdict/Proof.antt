@@ -1,6 +1,7 @@
 use borrow.Author.Needs.{needs}
 use denote.Ref.{now}
-use Rattle.answers.proofs.Asks.{asked-holds, verdict-good, verdict-refused}
+use Rattle.sheet.proofs.Asks.{asked-holds}
+use Rattle.answers.proofs.Asks.{verdict-good, verdict-refused}
 use Rattle.answers.proofs.verdict.Statement.{statement}
 use Rattle.answers.proofs.verdict.Tie as tie
 

@@ -1,6 +1,7 @@
 use borrow.Author.Needs.{needs}
 use denote.Ref.{now}
-use Rattle.answers.proofs.Asks.{asked-holds, write-good, write-refused}
+use Rattle.sheet.proofs.Asks.{asked-holds}
+use Rattle.answers.proofs.Asks.{write-good, write-refused}
 use Rattle.answers.proofs.write.Statement.{statement}
 use Rattle.answers.proofs.write.Tie as tie
 

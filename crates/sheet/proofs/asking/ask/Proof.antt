@@ -1,7 +1,7 @@
 use borrow.Author.Needs.{needs}
 use borrow.Author.Tests.{ne-eqb}
-use Rattle.answers.proofs.asking.ask.Statement.{statement}
-use Rattle.answers.proofs.asking.ask.Tie as tie
+use Rattle.sheet.proofs.asking.ask.Statement.{statement}
+use Rattle.sheet.proofs.asking.ask.Tie as tie
 
 read-requires : tie.Need-read-requires
 read-requires c κs = search needs
