@@ -1,0 +1,4 @@
+pub mod Numbered
+pub mod Promises
+pub mod RowRun
+pub mod TreeRun

@@ -1,0 +1,14 @@
+-- What the fields after a sheet's version come to.
+use Prim.Native.Nat.{ℕ}
+use mathlib.Core.List.{List}
+use lib.ListN.{getD}
+use lib.Dec.{eqb, leb}
+use Rattle.meaning.specs.Contents.{Question}
+use Rattle.sheet.specs.Sheet.{Answer, field, checkBody}
+
+-- "asked (1 or 2, as the caller asked); verdict (0 yes, 1 no)"
+abbrev pub fromAsked : Question → ℕ → List ℕ → Answer
+fromAsked q a s =
+    field s 5 1 (eqb (getD s 5 0) a) 14
+    (field s 6 1 (leb (getD s 6 0) 1) 14
+    (checkBody q a s (getD s 6 0)))

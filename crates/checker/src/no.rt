@@ -1,0 +1,86 @@
+// A no sheet: the number of a formula, the values of its rows, and then the end.
+use formula::formulas::formula;
+use formula::formulas::formula_count;
+use formula::types::Formula;
+use question::types::Question;
+use sheet::compiled::formula_met;
+use sheet::rows::Reading;
+use sheet::rows::fields;
+use sheet::types::Checked;
+use sheet::types::Verdict;
+ghost use mathlib.Core.Path.{_≡_};
+ghost use mathlib.Core.Bool.{cond};
+ghost use Prim.Native.Nat.{_+_, _≤_, _<_};
+ghost use lib.ListN.{length};
+ghost use Rattle.meaning.specs.Contents as meant;
+ghost use Rattle.meaning.specs.Limits.{mostColumns, mostVertices};
+ghost use Rattle.question.specs.Held.{Held, questionOf};
+ghost use Rattle.question.specs.Accepted.{Accepted};
+ghost use Rattle.formula.specs.Formulas.{formulas};
+ghost use Rattle.formula.specs.Formulas as spec;
+ghost use Rattle.formula.specs.Spans.{Compiled};
+ghost use Rattle.sheet.specs.Rows as rows;
+ghost use Rattle.sheet.specs.Sheet.{says, sayNo, refusal, noEnd, checkRows, checkNo};
+ghost use Rattle.sheet.specs.Answered.{checkedOf};
+ghost use Rattle.sheet.specs.Checking.{Fine};
+
+// How many values the rows have, by whether there are two rows.
+fn value_count(total: usize, pairs: bool) -> usize
+    requires { ⌜ total ≤ mostColumns ⌝ }
+    ensures { λ r. ⌜ r ≡ cond pairs (total + total) total ⌝ }
+{
+    if pairs { total + total } else { total }
+}
+
+// After the values: a failing formula comes before bytes that are left.
+fn ending(met: bool, ended: bool) -> Checked
+    ensures { λ r. ⌜ checkedOf r ≡ cond met (cond ended (says sayNo) (refusal 16 0)) (refusal 15 7) ⌝ }
+{
+    if met {
+        if ended {
+            return Checked::Passes(Verdict::No);
+        }
+        return Checked::Refused(16, 0);
+    }
+    Checked::Refused(15, 7)
+}
+
+// What a sheet comes to whose values, so many, may all stand there.
+fn rows_end(f: Formula, sheet: &[u8], count: usize) -> Checked
+    requires { ⌜ Fine f × (count < mostVertices) × (rows.fieldAt count ≤ length (now sheet)) ⌝ }
+    ensures { λ r. ⌜ ((F : spec.Formula) (q : meant.Question) → Compiled f F → count ≡ rows.fields q F → checkedOf r ≡ noEnd q F (now (sheet .entry))) ⌝ }
+{
+    let met = formula_met(f, sheet, count);
+    let ended = sheet.len() <= 8 + 4 * count;
+    ending(met, ended)
+}
+
+// The values from the first on, for formula i.
+fn formula_rows(q: Question, i: usize, f: Formula, sheet: &[u8]) -> Checked
+    requires { ⌜ Held q × Fine f × (8 ≤ length (now sheet)) ⌝ }
+    ensures { λ r. ⌜ ((F : spec.Formula) → Compiled f F → checkedOf r ≡ checkRows (questionOf q) i F (now (sheet .entry))) ⌝ }
+{
+    let count = value_count(q.shape.total, f.pairs);
+    let reading = fields(q, i, sheet, count);
+    match reading {
+        Reading::All => rows_end(f, sheet, count),
+        Reading::Refused(number, place) => Checked::Refused(number, place),
+    }
+}
+
+// The formula's number, then its rows.
+pub fn no_sheet(q: Question, asked: u8, sheet: &[u8]) -> Checked
+    requires { ⌜ Held q × Accepted (questionOf q) ⌝ }
+    ensures { λ r. ⌜ checkedOf r ≡ checkNo (questionOf q) (formulas (questionOf q) asked) (now (sheet .entry)) ⌝ }
+{
+    if sheet.len() < 8 {
+        return Checked::Refused(11, 7);
+    }
+    let i = sheet[7] as usize;
+    let n = formula_count(q, asked);
+    if n <= i {
+        return Checked::Refused(14, 7);
+    }
+    let f = formula(q, asked, i);
+    formula_rows(q, i, f, sheet)
+}
