@@ -1,9 +1,7 @@
 //! The cases and bytes that the scope itself names.
 
-use oracle::examples::twelve;
-use oracle::question::Question;
+use oracle::examples::{shortcuts, twelve};
 use oracle::sample::deepest;
-use oracle::sketch::Sketch;
 use oracle::trouble::trouble;
 use oracle::{check, encode, read, verdict, write, Refusal, Verdict};
 
@@ -70,11 +68,10 @@ fn case_a_in_bytes() {
 
 #[test]
 fn shortcuts_that_are_wrong() {
-    let key = Sketch::new("K 0..9 v, V 0..30", "V>=10");
-    let five = key.modify(0, "K=3 K=5 V>=20 and or", "K:=5");
-    assert_eq!(word(&encode(&five), 2), "yes");
-    let above: Question = key.delete(0, "V>30");
-    assert_eq!(word(&encode(&above), 1), "yes");
+    for example in shortcuts() {
+        let said = [1, 2].map(|asked| word(&encode(&example.question), asked)).join("/");
+        assert_eq!(said, example.right, "{}", example.name);
+    }
 }
 
 #[test]

@@ -1,10 +1,10 @@
-//! Prints the twelve cases and the published examples, one a line: name, question, the report's
+//! Prints the twelve cases, the shortcuts and the published examples, one a line: name, question, the report's
 //! verdicts, the right ones. The question is in hexadecimal, or with the word `bytes` as numbers with
 //! commas between, to be put into a program's text. With the word `table`: the published examples as
 //! the rows of a Markdown table.
 
 use oracle::encode;
-use oracle::examples::{hex, published, twelve};
+use oracle::examples::{hex, published, shortcuts, twelve};
 
 fn main() {
     let words: Vec<String> = std::env::args().skip(1).collect();
@@ -18,7 +18,7 @@ fn main() {
             std::process::exit(2)
         }
     };
-    for example in twelve().iter().chain(&published()) {
+    for example in twelve().iter().chain(&shortcuts()).chain(&published()) {
         let bytes = question(&encode(&example.question));
         println!("{}\t{bytes}\t{}\t{}", example.name, example.report, example.right);
     }

@@ -9,7 +9,7 @@ mod twelve;
 pub use load::{load, xyz};
 pub use report_000::report_000;
 pub use report_002::report_002;
-pub use twelve::twelve;
+pub use twelve::{shortcuts, twelve};
 
 use crate::encode::encode;
 use crate::question::Question;

@@ -1,13 +1,19 @@
-//! The scope's twelve cases.
+//! The scope's twelve cases, and questions on which a shortcut that it warns of would go wrong.
 
 use super::Example;
+use crate::question::Question;
 use crate::sketch::Sketch;
+
+/// KEY and CLIENT.
+const TABLES: &str = "K 0..9 v, V 0..30; N 0..9 v, Q 0..9";
+
+fn case(name: &str, question: Question, right: &'static str) -> Example {
+    Example::new(name, question, "-/-", right)
+}
 
 /// The cases a to l, in order.
 pub fn twelve() -> Vec<Example> {
-    let tables = "K 0..9 v, V 0..30; N 0..9 v, Q 0..9";
-    let list = Sketch::new(tables, "K=Q V>=10 and");
-    let case = |name, question, right| Example::new(name, question, "-/-", right);
+    let list = Sketch::new(TABLES, "K=Q V>=10 and");
     vec![
         case("a", list.insert(0, &[&[3, 9]]), "yes/yes"),
         case("b", list.insert(0, &[&[3, 10]]), "no/no"),
@@ -21,5 +27,18 @@ pub fn twelve() -> Vec<Example> {
         case("j", list.modify(0, "V>=10", "V:=V-8"), "no/no"),
         case("k", list.modify(0, "V>=10", "V:=V-40"), "yes/yes"),
         case("l", list.modify(0, "V>=10", "V:=7"), "no/yes"),
+    ]
+}
+
+/// Beside b, g and k: a hidden column that decides, a range that decides, and a comparison whose
+/// negation must not lose the one that the integers give.
+pub fn shortcuts() -> Vec<Example> {
+    let key = Sketch::new("K 0..9 v, V 0..30", "V>=10");
+    let list = Sketch::new(TABLES, "K=Q V>=10 and");
+    let negated = Sketch::new(TABLES, "K=Q V<=9 not and");
+    vec![
+        case("properties", key.modify(0, "K=3 K=5 V>=20 and or", "K:=5"), "no/yes"),
+        case("ranges", list.delete(0, "V>30"), "yes/yes"),
+        case("negation", negated.delete(0, "V<=9"), "yes/yes"),
     ]
 }
