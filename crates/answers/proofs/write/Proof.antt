@@ -33,9 +33,10 @@ returns c =
 
 returns-2 : tie.Need-returns-2
 returns-2 c =
-    let k = c .before .before .before .before in
+    let t = c .before in
+    let k = t .before .before .before in
     let a = k .before .before .before .args in
-    write-refused (a .asked) (now (a .question)) (k .ask .result) (k .ask .ensures) _ _ (c .before .a .given .1) (now (a .room))
+    write-refused (a .asked) (now (a .question)) (k .ask .result) (k .ask .ensures) _ _ (t .a .given .1) (now (a .room))
 
 pub write-spec : {M : Type 1} → statement M
 write-spec =

@@ -1,4 +1,5 @@
 use borrow.Author.Needs.{needs}
+use native.Mathlib.Omega.{arith}
 use denote.Ref.{now}
 use Rattle.question.specs.Held.{questionOf}
 use Rattle.answers.proofs.Places.{fits-in, placed-whole, placed-none}
@@ -26,7 +27,7 @@ clear-requires-2 : tie.Need-clear-requires-2
 clear-requires-2 c κs =
     let l = c .before .before .before .before in
     let s = l .before .before .before in
-    fits-in (questionOf (s .args .q)) (s .args .asked) (now (s .args .room)) _ (l .lay .result) (l .lay .ensures) (c .before .if1 .left)
+    omega (arith, fits-in (questionOf (s .args .q)) (s .args .asked) (now (s .args .room)) _ (l .lay .result) (l .lay .ensures) (c .before .if1 .left))
 
 same-length-2 : tie.Need-same-length-2
 same-length-2 c = search needs
