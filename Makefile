@@ -1,11 +1,15 @@
 # The commands of the project. `make test` is the gate.
-.PHONY: test ask twelve refusals fmt
+SHELL := /bin/bash
+.SHELLFLAGS := -euo pipefail -c
+.PHONY: test ask twelve refusals lib soak bench fmt
 
-# Layout, the tests in Rust, then every proof, must-fail edit and program run, from nothing. The last line is rt's count.
+cargo = cargo $(1) --quiet --offline --release --manifest-path rust/Cargo.toml
+
+# Layout; every proof, must-fail edit and program run, from nothing; then the tests in Rust, which call the proved library.
+# rt's count, the last line of `rt ci`, is said again at the end.
 test:
 	rt fmt --check
-	cargo test --quiet --offline --release --manifest-path rust/Cargo.toml
-	rt ci
+	log=$$(mktemp); trap 'rm -f "$$log"' EXIT; rt ci | tee "$$log"; $(MAKE) --no-print-directory lib; $(call cargo,test); tail -n 1 "$$log"
 
 # The program: target/bin/ask < QUESTION
 ask:
@@ -20,6 +24,23 @@ twelve:
 refusals:
 	rt check refusals
 	target/bin/refusals
+
+# The library for C and Rust: target/staticlib/libcapi.a, with include/slushtrowel.h.
+lib:
+	rt staticlib capi | tail -n 1
+
+# The library against the independent implementation, for so many seconds from a seed.
+LONG ?= 600
+SEED ?= 1
+soak: lib
+	$(call cargo,run) -p diff --bin soak -- $(LONG) $(SEED)
+
+# Questions and nodes a second beside z3's, and the two inner loops by the number of vertices. Installs z3 if it isn't there.
+bench: lib
+	rust/bench-setup.sh
+	rt staticlib pace | tail -n 1
+	$(call cargo,run) -p diff --bin bench
+	$(call cargo,run) -p pace
 
 fmt:
 	rt fmt
