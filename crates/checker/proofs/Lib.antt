@@ -1,4 +1,5 @@
 pub mod Numbered
 pub mod Promises
+pub mod Numbers
 pub mod RowRun
 pub mod TreeRun
