@@ -15,7 +15,7 @@ use Rattle.question.specs.Accepted.{Accepted}
 use Rattle.question.specs.Reader.{good, bad, Read, readOf}
 use Rattle.question.proofs.Accepts.{accepted}
 use Rattle.sheet.specs.Answers.{askedOf, judge, verdictOf, checkFor, checkOf, wrote, unwritten, Done, placed, writeFor, writeOf}
-use Rattle.sheet.specs.Demands.{Exact, Askable, Meant, IrrelevantExact, ComputableExact, PassYesProves, PassNoBreaks, HasPassingSheet, NeverOpposite, WrittenPasses, Fixed, RoomFixed, Unique, VerdictUnique, CheckUnique, WriteUnique}
+use Rattle.sheet.specs.Demands.{Exact, Askable, Meant, IrrelevantExact, ComputableExact, PassYesProves, PassNoBreaks, HasPassingSheet, NeverOpposite, WrittenPasses, Fixed, RoomFixed}
 use Rattle.sheet.specs.Sheet.{Verdict, sayYes, sayNo, says, verdictFor, findingOf, sheetOf, checkSheet}
 use Rattle.sheet.proofs.Fit.{fit-all, to-true}
 use Rattle.sheet.proofs.Passes.{Shown, passes-show}
@@ -131,16 +131,3 @@ room-fixed a s room = go (askedOf a s) refl
     go : (r : Read) → askedOf a s ≡ r → Fixed a s room (writeFor a room r .answer) (writeFor a room r .room) × (length (writeFor a room r .room) ≡ length room)
     go (good q) e = put q e (leb (length (sheetOf q a)) (length room)) (λ t. leb→le (length (sheetOf q a)) (length room) t) (placed (verdictFor (findingOf q a)) (sheetOf q a) room) refl
     go (bad n o) e = (inl (e, refl), refl)
-
--- ---- two results that a statement allows are equal
-one-only : {A : Type 0} (a : A) → Unique (λ x. x ≡ a)
-one-only a x y p q = p ∙ sym q
-
-pub verdict-unique : VerdictUnique
-verdict-unique a s = one-only (verdictOf a s)
-
-pub check-unique : CheckUnique
-check-unique a s sheet = one-only (checkOf a s sheet)
-
-pub write-unique : WriteUnique
-write-unique a s room = one-only (writeOf a s room)

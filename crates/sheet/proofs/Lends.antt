@@ -20,7 +20,7 @@ use Rattle.formula.specs.Spans.{Compiled}
 use Rattle.formula.specs.declared.types.Formula as compiled
 use Rattle.formula.proofs.Sizes.{SmallPlace}
 use Rattle.formula.proofs.Proper.{SmallRange, Proper}
-use Rattle.sheet.specs.Checking.{Lent, Places, Lendable, Spanned, SmallSpans}
+use Rattle.sheet.specs.Checking.{Shows, Lent, Places, Lendable, Spanned, SmallSpans}
 use Rattle.sheet.proofs.Fit.{present-below}
 
 kinds-length : (p : List Instr) → length (kindsOf p) ≡ length p
@@ -59,12 +59,14 @@ module _ (f : compiled.Formula) (F : Formula) (is : Compiled f F) where
   abbrev ms : List ℤ
   ms = take (f .program .places) (f .program .most)
 
-  pub lent-of : Lent F ks ls rs ms (f .vertices .present)
-  lent-of =
-      record { kinds = is .program .kinds; left = is .program .left; right = is .program .right; most = is .program .most; shown = record { agree = is .vertices .agree } }
+  pub lent-of : Lent (F .program) ks ls rs ms
+  lent-of = record { kinds = is .program .kinds; left = is .program .left; right = is .program .right; most = is .program .most }
+
+  pub shows-of : Shows (f .vertices .present) (F .ranges)
+  shows-of = record { agree = is .vertices .agree }
 
   pub spanned-of : length (F .ranges) < mostVertices → Spanned (F .ranges) (f .vertices .present) (f .vertices .lo) (f .vertices .hi)
-  spanned-of h = record { few = h; shows = record { agree = is .vertices .agree }; lows = is .vertices .lo; highs = is .vertices .hi }
+  spanned-of h = record { few = h; shows = shows-of; lows = is .vertices .lo; highs = is .vertices .hi }
 
   pub kinds-long : f .program .count ≡ length ks
   kinds-long = is .program .count ∙ sym (kinds-length (F .program)) ∙ ap length (sym (is .program .kinds))

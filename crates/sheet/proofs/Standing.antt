@@ -12,29 +12,28 @@ use Rattle.meaning.specs.Limits.{mostVertices}
 use Rattle.grid.specs.Grid.{Grid}
 use Rattle.formula.specs.Cells.{bit}
 use Rattle.formula.specs.Known.{knownKinds}
-use Rattle.formula.specs.Program.{Place, places, kindsOf}
+use Rattle.formula.specs.Program.{Program, Place, places, kindsOf}
 use Rattle.formula.specs.Formulas.{Formula}
 use Rattle.formula.proofs.Knows.{known-kinds}
 use Rattle.sheet.specs.Facts.{start, decide}
 use Rattle.sheet.specs.Sheet.{lastVertex}
 use Rattle.sheet.specs.Tree.{Outcome, passed, refused, andThen, falseNode, cycleNode, check, checkTree}
-use Rattle.sheet.specs.Checking.{Lent, checkLeft}
+use Rattle.sheet.specs.Checking.{Lent, placeAt, checkLeft}
 use Rattle.sheet.proofs.Steps.{check-false, check-cycle, check-empty, check-split, check-split-none}
-
--- a place as the code has it
-abbrev pub placeAt : List ℕ → List ℕ → List ℤ → ℕ → Place
-placeAt ls rs ms i = record { left = getD ls i 0; right = getD rs i 0; most = getD ms i (pos 0) }
 
 abbrev pub nowhere : Place
 nowhere = record { left = 0; right = 0; most = pos 0 }
 
--- the places that are lent are the formula's
-module _ (F : Formula) (ks ls rs : List ℕ) (ms : List ℤ) (flags : List Bool) (lent : Lent F ks ls rs ms flags) where
-  pub lent-length : length ls ≡ length (places (F .program))
+-- the places that are lent are the program's
+module _ (p : Program) (ks ls rs : List ℕ) (ms : List ℤ) (lent : Lent p ks ls rs ms) where
+  pub lent-length : length ls ≡ length (places p)
   lent-length = ap length (lent .left) ∙ simp length-map
 
-  pub lent-place : (i : ℕ) → placeAt ls rs ms i ≡ getD (places (F .program)) i nowhere
-  lent-place i = let ps = places (F .program) in rw (lent .left, lent .right, lent .most, List·getD-map (λ (a : Place). a .left) ps i nowhere, List·getD-map (λ (a : Place). a .right) ps i nowhere, List·getD-map (λ (a : Place). a .most) ps i nowhere)
+  pub lent-most : length ms ≡ length (places p)
+  lent-most = ap length (lent .most) ∙ simp length-map
+
+  pub lent-place : (i : ℕ) → placeAt ls rs ms i ≡ getD (places p) i nowhere
+  lent-place i = let ps = places p in rw (lent .left, lent .right, lent .most, List·getD-map (λ (a : Place). a .left) ps i nowhere, List·getD-map (λ (a : Place). a .right) ps i nowhere, List·getD-map (λ (a : Place). a .most) ps i nowhere)
 
 -- a byte that is no node
 check-other : (F : Formula) (ds : List Bool) (g : Grid) (ps : List Place) (at b : ℕ) (bs : List ℕ) → ¬ (b ≡ 1) → ¬ (b ≡ 2) → ¬ (b ≡ 3) → check mostVertices F ps ds g at (b ∷ bs) ≡ refused 14 at
@@ -48,7 +47,7 @@ check-other F ds g [] at (suc (suc (suc (suc b)))) bs one two three = refl
 check-other F ds g (p ∷ ps) at (suc (suc (suc (suc b)))) bs one two three = refl
 
 -- one more decision
-decided-more : (truths : List ℕ) (d v : ℕ) → d < length truths → map bit (take (suc d) (set truths d v)) ≡ map bit (take d truths) ++ (bit v ∷ [])
+pub decided-more : (truths : List ℕ) (d v : ℕ) → d < length truths → map bit (take (suc d) (set truths d v)) ≡ map bit (take d truths) ++ (bit v ∷ [])
 decided-more truths d v h = rw (take-suc-set truths d v h) (map-append bit (take d truths) (v ∷ []))
 
 module _ (F : Formula) (truths : List ℕ) (g : Grid) (part : List ℕ) (at base todo : ℕ) where
@@ -85,19 +84,19 @@ module _ (F : Formula) (truths : List ℕ) (g : Grid) (part : List ℕ) (at base
       unfolding checkLeft
       left-none e = rw (opened, n) (sym (check-split-none lastVertex F (map bit (take (length ps - todo) truths)) g ps (length ps - todo) nowhere (omega arith) (base + at) (drop (at + 1) part)))
 
-      module _ (ks ls rs : List ℕ) (ms : List ℤ) (flags : List Bool) (lent : Lent F ks ls rs ms flags) (some : ¬ (todo ≡ 0)) (few : todo ≤ length ls) (d : ℕ) (e : d ≡ length ls - todo) (room : d < length truths) where
+      module _ (ks ls rs : List ℕ) (ms : List ℤ) (lent : Lent (F .program) ks ls rs ms) (some : ¬ (todo ≡ 0)) (few : todo ≤ length ls) (d : ℕ) (e : d ≡ length ls - todo) (room : d < length truths) where
         -- one of the two trees: with one place less, under one fact more
         below : (v o : ℕ) (bs : List ℕ) → checkLeft F (todo - 1) (set truths d v) (decide g (placeAt ls rs ms d) (bit v)) o bs ≡ check mostVertices F (drop (suc d) ps) (map bit (take d truths) ++ (bit v ∷ [])) (decide g (getD ps d nowhere) (bit v)) o bs
         unfolding checkLeft
         below v o bs =
-            let m : length ps - (todo - 1) ≡ suc d = omega (arith, lent-length F ks ls rs ms flags lent) in
-            rw (m, lent-place F ks ls rs ms flags lent d, decided-more truths d v room)
+            let m : length ps - (todo - 1) ≡ suc d = omega (arith, lent-length (F .program) ks ls rs ms lent) in
+            rw (m, lent-place (F .program) ks ls rs ms lent d, decided-more truths d v room)
 
         split : Here ≡ andThen (check mostVertices F (drop (suc d) ps) (map bit (take d truths) ++ (true ∷ [])) (decide g (getD ps d nowhere) true) (suc (base + at)) (drop (at + 1) part)) (λ o r. check mostVertices F (drop (suc d) ps) (map bit (take d truths) ++ (false ∷ [])) (decide g (getD ps d nowhere) false) o r)
         unfolding checkLeft
         split =
-            let m : length ps - todo ≡ d = omega (arith, lent-length F ks ls rs ms flags lent) in
-            rw (opened, n, m) (check-split lastVertex F (map bit (take d truths)) g ps d nowhere (omega (arith, lent-length F ks ls rs ms flags lent)) (base + at) (drop (at + 1) part))
+            let m : length ps - todo ≡ d = omega (arith, lent-length (F .program) ks ls rs ms lent) in
+            rw (opened, n, m) (check-split lastVertex F (map bit (take d truths)) g ps d nowhere (omega (arith, lent-length (F .program) ks ls rs ms lent)) (base + at) (drop (at + 1) part))
 
         next : base + (at + 1) ≡ suc (base + at)
         next = omega arith

@@ -33,20 +33,20 @@ settled fails b h s = h
 settled passes b h s = h
 settled open? b h s = s
 
-module _ (F : Formula) (ks ls rs : List ℕ) (ms : List ℤ) (flags : List Bool) (lent : Lent F ks ls rs ms flags) (x : Values) (vals : List ℤ) (same : (v : ℕ) → getD vals v (pos 0) ≡ x v) (truths : List ℕ) (tested : Tested vals ls rs ms truths) (few : length ls ≤ 120) where
+module _ (F : Formula) (ks ls rs : List ℕ) (ms : List ℤ) (lent : Lent (F .program) ks ls rs ms) (x : Values) (vals : List ℤ) (same : (v : ℕ) → getD vals v (pos 0) ≡ x v) (truths : List ℕ) (tested : Tested vals ls rs ms truths) (few : length ls ≤ 120) where
   abbrev ds : List Bool
   ds = map bit (take (length ls) truths)
 
   test-is : (i : ℕ) → testAt vals ls rs ms i ≡ test x (getD (places (F .program)) i nowhere)
-  test-is i = ap₂ (λ a b. leZ a (b +ℤ getD ms i (pos 0))) (same (getD ls i 0)) (same (getD rs i 0)) ∙ ap (test x) (lent-place F ks ls rs ms flags lent i)
+  test-is i = ap₂ (λ a b. leZ a (b +ℤ getD ms i (pos 0))) (same (getD ls i 0)) (same (getD rs i 0)) ∙ ap (test x) (lent-place (F .program) ks ls rs ms lent i)
 
   decided : (i : ℕ) → i < length (places (F .program)) → test x (getD (places (F .program)) i nowhere) ≡ getD ds i false
   decided i h =
-      let l : i < length ls = omega (arith, lent-length F ks ls rs ms flags lent) in
+      let l : i < length ls = omega (arith, lent-length (F .program) ks ls rs ms lent) in
       sym (List·getD-map bit (take (length ls) truths) i 0 ∙ ap bit (getD-take (length ls) truths i 0 l) ∙ tested .each i l ∙ test-is i)
 
   pub met-settles : (t : Three) → t ≡ knownKinds ks ds → Settles t (truth x (F .program))
   met-settles t e =
       let k : t ≡ known (F .program) ds = e ∙ ap (λ k. knownKinds k ds) (lent .kinds) ∙ sym (known-kinds (F .program) ds) in
-      let long : length (places (F .program)) ≤ length ds = omega (arith, lent-length F ks ls rs ms flags lent, length-map (take (length ls) truths) bit, length-take-le (length ls) truths (omega (arith, tested .long))) in
+      let long : length (places (F .program)) ≤ length ds = omega (arith, lent-length (F .program) ks ls rs ms lent, length-map (take (length ls) truths) bit, length-take-le (length ls) truths (omega (arith, tested .long))) in
       rw k (settled (known (F .program) ds) (truth x (F .program)) (known-says x (F .program) ds (agrees-by x (places (F .program)) ds decided)) (known-sure (F .program) ds long))

@@ -10,7 +10,7 @@ use Rattle.meaning.specs.Limits.{mostVertices, mostDecisions}
 use Rattle.meaning.specs.Contents.{Range}
 use Rattle.grid.specs.Grid.{Grid, farN, least-weight, Bounded, AllWithin}
 use Rattle.grid.specs.Walk.{Below}
-use Rattle.formula.specs.Program.{places, kindsOf}
+use Rattle.formula.specs.Program.{Program, Place, places, kindsOf}
 use Rattle.formula.specs.Formulas.{Formula}
 use Rattle.formula.specs.Spans.{Compiled}
 use Rattle.formula.specs.declared.types.Formula as compiled
@@ -65,13 +65,16 @@ pub record Lendable (kinds left right : List ℕ) (most : List ℤ) (shown : Lis
   pub places : Places left right most
   pub flags : length shown ≤ mostVertices
 
--- it is the formula: its kinds, its places, and which vertices it has
-pub record Lent (F : Formula) (ks ls rs : List ℕ) (ms : List ℤ) (flags : List Bool) : Type 0 where
-  pub kinds : ks ≡ kindsOf (F .program)
-  pub left : ls ≡ map (λ a. a .left) (places (F .program))
-  pub right : rs ≡ map (λ a. a .right) (places (F .program))
-  pub most : ms ≡ map (λ a. a .most) (places (F .program))
-  pub shown : Shows flags (F .ranges)
+-- they are a program's kinds and places
+pub record Lent (p : Program) (ks ls rs : List ℕ) (ms : List ℤ) : Type 0 where
+  pub kinds : ks ≡ kindsOf p
+  pub left : ls ≡ map (λ a. a .left) (places p)
+  pub right : rs ≡ map (λ a. a .right) (places p)
+  pub most : ms ≡ map (λ a. a .most) (places p)
+
+-- place i
+abbrev pub placeAt : List ℕ → List ℕ → List ℤ → ℕ → Place
+placeAt ls rs ms i = record { left = getD ls i 0; right = getD rs i 0; most = getD ms i (pos 0) }
 
 -- the check where so many places are left: the decisions of those before them are the first truths
 unfoldable pub checkLeft : Formula → ℕ → List ℕ → Grid → ℕ → List ℕ → Outcome

@@ -87,12 +87,3 @@ RoomFixed = (a : ℕ) (s room : List ℕ) → Fixed a s room (writeOf a s room .
 
 abbrev pub Unique : {A : Type 0} → (A → Type 0) → Type 0
 Unique P = (x y : _) → P x → P y → x ≡ y
-
-abbrev pub VerdictUnique : Type 0
-VerdictUnique = (a : ℕ) (s : List ℕ) → Unique (λ r. r ≡ verdictOf a s)
-
-abbrev pub CheckUnique : Type 0
-CheckUnique = (a : ℕ) (s sheet : List ℕ) → Unique (λ r. r ≡ checkOf a s sheet)
-
-abbrev pub WriteUnique : Type 0
-WriteUnique = (a : ℕ) (s room : List ℕ) → Unique (λ d. d ≡ writeOf a s room)

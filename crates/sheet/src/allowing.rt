@@ -45,7 +45,7 @@ fn in_column(q: Question, c: usize, z: i32) -> bool
 }
 
 // One of the inserted rows.
-fn row_at(rows: [Row; 4], count: usize, i: usize) -> Row
+pub fn row_at(rows: [Row; 4], count: usize, i: usize) -> Row
     requires { ⌜ (i < count) × (count ≤ 4) ⌝ }
     ensures { λ r. ⌜ ((width : ℕ) → rowOf width r ≡ getD (map (rowOf width) (take count rows)) i []) ⌝ }
 {

@@ -6,8 +6,6 @@ use crate::nodes::Past;
 use crate::trees::tree;
 use formula::types::Formula;
 ghost use mathlib.Core.Path.{_≡_};
-ghost use mathlib.Core.Bool.{Bool};
-ghost use mathlib.Core.List.{List};
 ghost use Prim.Native.Nat.{ℕ, _≤_, _<_};
 ghost use lib.ListN.{length, getD, take, replicate};
 ghost use lib.IntN.{pos};
@@ -20,7 +18,7 @@ ghost use Rattle.formula.specs.Spans.{Compiled};
 ghost use Rattle.sheet.specs.Tree.{checkTree};
 ghost use Rattle.sheet.specs.Rows.{fields, fieldAt, readValues};
 ghost use Rattle.sheet.specs.NoSheet.{Small};
-ghost use Rattle.sheet.specs.Checking.{outcomeOf, Lent, Places, checkLeft, Fine};
+ghost use Rattle.sheet.specs.Checking.{outcomeOf, Shows, Lent, Places, checkLeft, Fine};
 
 // The used parts of a compiled formula's arrays are lent to the tree's check: no place is decided yet.
 fn lent_tree(
@@ -35,7 +33,7 @@ fn lent_tree(
     part: &[u8],
 ) -> Past
     requires { ⌜ (count ≤ 320) × (places ≤ 120) × Places (take places left) (take places right) (take places most) × AllWithin farN mostVertices g ⌝ }
-    ensures { λ r. ⌜ ((F : spec.Formula) (base : ℕ) → Lent F (take count kinds) (take places left) (take places right) (take places most) shown → outcomeOf base (now (part .entry)) r ≡ checkLeft F places (replicate 120 0) g base (now (part .entry))) ⌝ }
+    ensures { λ r. ⌜ ((F : spec.Formula) (base : ℕ) → Lent (F .program) (take count kinds) (take places left) (take places right) (take places most) → Shows shown (F .ranges) → outcomeOf base (now (part .entry)) r ≡ checkLeft F places (replicate 120 0) g base (now (part .entry))) ⌝ }
 {
     let truths = [0; 120];
     let used = &kinds[..count];
@@ -74,7 +72,7 @@ fn lent_met(
     x: [i64; 17],
 ) -> bool
     requires { ⌜ (count ≤ 320) × (places ≤ 120) × Places (take places left) (take places right) (take places most) × Small x ⌝ }
-    ensures { λ r. ⌜ ((F : spec.Formula) (z : Values) (flags : List Bool) → Lent F (take count kinds) (take places left) (take places right) (take places most) flags → ((v : ℕ) → getD x v (pos 0) ≡ z v) → r ≡ truth z (F .program)) ⌝ }
+    ensures { λ r. ⌜ ((F : spec.Formula) (z : Values) → Lent (F .program) (take count kinds) (take places left) (take places right) (take places most) → ((v : ℕ) → getD x v (pos 0) ≡ z v) → r ≡ truth z (F .program)) ⌝ }
 {
     let used = &kinds[..count];
     let a = &left[..places];

@@ -1,5 +1,5 @@
 // The definitions stand in specs/, the laws of them in proofs/.
-mod allowing;
+pub mod allowing;
 pub mod asking;
 pub mod compiled;
 pub mod facts;

@@ -2,8 +2,6 @@
 use formula::knowing::Truth;
 use formula::knowing::known;
 ghost use mathlib.Core.Path.{_≡_};
-ghost use mathlib.Core.Bool.{Bool};
-ghost use mathlib.Core.List.{List};
 ghost use Prim.Native.Nat.{ℕ, _+_, _*_, _≤_, _<_};
 ghost use lib.ListN.{length, getD};
 ghost use lib.IntN.{pos, _+ℤ_};
@@ -66,7 +64,7 @@ fn decisions(left: &[u8], right: &[u8], most: &[i64], values: [i64; 17]) -> [u8;
 // Is the formula true at the values?
 pub fn met(kinds: &[u8], left: &[u8], right: &[u8], most: &[i64], values: [i64; 17]) -> bool
     requires { ⌜ (length (now kinds) ≤ 320) × Places (now left) (now right) (now most) × Small values ⌝ }
-    ensures { λ r. ⌜ ((F : Formula) (x : Values) (flags : List Bool) → Lent F (now (kinds .entry)) (now (left .entry)) (now (right .entry)) (now (most .entry)) flags → ((v : ℕ) → getD values v (pos 0) ≡ x v) → r ≡ truth x (F .program)) ⌝ }
+    ensures { λ r. ⌜ ((F : Formula) (x : Values) → Lent (F .program) (now (kinds .entry)) (now (left .entry)) (now (right .entry)) (now (most .entry)) → ((v : ℕ) → getD values v (pos 0) ≡ x v) → r ≡ truth x (F .program)) ⌝ }
 {
     let t = decisions(left, right, most, values);
     let n = left.len();

@@ -9,7 +9,7 @@ ghost use lib.ListN.{length, drop};
 ghost use Rattle.meaning.specs.Limits.{mostVertices};
 ghost use Rattle.grid.specs.Grid.{farN, AllWithin};
 ghost use Rattle.formula.specs.Formulas.{Formula};
-ghost use Rattle.sheet.specs.Checking.{outcomeOf, Lent, Lendable, checkLeft};
+ghost use Rattle.sheet.specs.Checking.{outcomeOf, Shows, Lent, Lendable, checkLeft};
 
 // The tree at a position of the part that is lent, with so many places left: `truths` are the decisions of those before them, and
 // the grid holds the facts so far. Node 3 takes the first place left as true, then as false.
@@ -27,7 +27,7 @@ pub fn tree(
 ) -> Past
     requires { ⌜ Lendable (now kinds) (now left) (now right) (now most) (now shown) ⌝ }
     requires { ⌜ (todo ≤ length (now left)) × AllWithin farN mostVertices g ⌝ }
-    ensures { λ r. ⌜ ((F : Formula) (base : ℕ) → Lent F (now (kinds .entry)) (now (left .entry)) (now (right .entry)) (now (most .entry)) (now (shown .entry)) → outcomeOf base (now (part .entry)) r ≡ checkLeft F todo truths g (base + at) (drop at (now (part .entry)))) ⌝ }
+    ensures { λ r. ⌜ ((F : Formula) (base : ℕ) → Lent (F .program) (now (kinds .entry)) (now (left .entry)) (now (right .entry)) (now (most .entry)) → Shows (now (shown .entry)) (F .ranges) → outcomeOf base (now (part .entry)) r ≡ checkLeft F todo truths g (base + at) (drop at (now (part .entry)))) ⌝ }
 {
     if part.len() <= at {
         return Past::Refused(11, at);

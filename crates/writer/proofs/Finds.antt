@@ -1,13 +1,11 @@
 -- The loop over the formulas: those before the next are shut, and their trees stand in the room.
-use Prim.Native.Nat.{ℕ, zero, suc, _+_, _<_}
+use Prim.Native.Nat.{ℕ, _+_, _<_}
 use mathlib.Core.Path.{_≡_, refl, sym, ap, _∙_, subst}
 use mathlib.Core.Bool.{true, false, true≢false}
 use mathlib.Core.List.{List, [], _∷_, _++_}
 use native.Mathlib.Numerals.{add-one}
-use native.Mathlib.Omega.{arith}
 use lib.ListN.{length, getD}
 use lib.IntN.{pos}
-use Rattle.question.specs.Accepted.{Every}
 use Rattle.formula.specs.Formulas.{Formula}
 use Rattle.formula.specs.Able.{noFormula, formulaAt}
 use Rattle.sheet.specs.Grow.{Growth, shut, openAt, growTree}
@@ -22,11 +20,6 @@ use Rattle.writer.specs.declared.room.Spot.{Spot}
 use Rattle.writer.specs.declared.growing.Grown.{Grown}
 use Rattle.writer.specs.declared.finding.Found.{Found}
 use Rattle.writer.proofs.Puts.{puts-append, puts-length}
-
-pub every-at : (Fs : List Formula) (P : Formula → Type 0) → Every P Fs → (i : ℕ) → i < length Fs → P (formulaAt Fs i)
-every-at [] P a i h = absurd (omega arith)
-every-at (F ∷ Fs) P a zero h = a .0
-every-at (F ∷ Fs) P a (suc i) h = every-at Fs P (a .1) i (omega arith)
 
 module _ (Fs : List Formula) (old : List ℕ) (s : Spot) where
   -- before formula i

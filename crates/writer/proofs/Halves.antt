@@ -3,10 +3,9 @@ use Prim.Native.Nat.{ℕ, zero, suc, _≤_, _<_}
 use mathlib.Core.Path.{_≡_, refl, sym, ap, ap₂, _∙_, subst}
 use mathlib.Core.Bool.{Bool, true, false}
 use mathlib.Core.Option.{Option}
-use mathlib.Core.List.{List, [], _∷_, _++_, map}
+use mathlib.Core.List.{List, [], _∷_}
 use native.Mathlib.Omega.{arith}
 use lib.ListN.{length, getD, take, drop, set}
-use lib.Seq.{take-suc-set}
 use lib.IntN.{ℤ, pos, _+ℤ_}
 use lib.Signed.{ltZ}
 use Rattle.meaning.specs.Limits.{mostVertices}
@@ -19,39 +18,33 @@ use Rattle.formula.specs.Known.{Three, fails, passes, open?, known, knownKinds}
 use Rattle.formula.specs.Program.{Place, places}
 use Rattle.formula.specs.Cells.{bit}
 use Rattle.formula.proofs.Knows.{known-kinds}
+use Rattle.sheet.specs.Checking.{Lent, placeAt}
 use Rattle.sheet.specs.Facts.{negation, taken}
 use Rattle.sheet.specs.Fast.{calmNode, strainedNode, fast, sideOf, after}
 use Rattle.sheet.specs.Grow.{Growth, shut, openAt, join}
 use Rattle.sheet.specs.Tree.{bytesOf, falseLeaf}
 use Rattle.writer.specs.Room.{filling, putOne, puts}
-use Rattle.writer.specs.Growing.{decisions, placeAt, Lent, Grows, Ready, cutBytes, fastAt, sideBy}
+use Rattle.writer.specs.Growing.{decisions, Grows, Ready, cutBytes, fastAt, sideBy}
 use Rattle.writer.specs.declared.room.Spot.{Spot}
 use Rattle.writer.specs.declared.growing.Grown.{Grown}
 use Rattle.question.specs.Accepted.{Every}
 use Rattle.sheet.proofs.FastAmong.{SameBelow, Ends, fast-table}
+use Rattle.sheet.proofs.Standing.{nowhere, lent-most, lent-place, decided-more}
 use Rattle.sheet.proofs.Steps.{fast-split, fast-end}
 use Rattle.writer.proofs.Growths.{grows-same, grows-first, grows-second}
 
-all-of : (P : Place → Type 0) (ps : List Place) (d : ℕ → Place) → ((i : ℕ) → i < length ps → P (getD ps i (d i))) → Every P ps
+all-of : (P : Place → Type 0) (ps : List Place) (d : Place) → ((i : ℕ) → i < length ps → P (getD ps i d)) → Every P ps
 all-of P [] d f = tt
-all-of P (p ∷ ps) d f = (f 0 (omega arith), all-of P ps (λ i. d (suc i)) (λ i h. f (suc i) (omega arith)))
+all-of P (p ∷ ps) d f = (f 0 (omega arith), all-of P ps d (λ i h. f (suc i) (omega arith)))
 
 all-drop : (P : Place → Type 0) (n : ℕ) (ps : List Place) → Every P ps → Every P (drop n ps)
 all-drop P zero ps a = a
 all-drop P (suc n) [] a = tt
 all-drop P (suc n) (p ∷ ps) a = all-drop P n ps (a .1)
 
-map-snoc : (l : List ℕ) (b : ℕ) → map bit (l ++ (b ∷ [])) ≡ map bit l ++ (bit b ∷ [])
-map-snoc [] b = refl
-map-snoc (x ∷ l) b = ap (λ t. bit x ∷ t) (map-snoc l b)
-
--- one more decision
-pub decided-more : (truths : List ℕ) (i b : ℕ) → i < length truths → decisions (set truths i b) (suc i) ≡ decisions truths i ++ (bit b ∷ [])
-decided-more truths i b h = ap (map bit) (take-suc-set truths i b h) ∙ map-snoc (take i truths) b
-
 module _ (last : ℕ) (F : Formula) (kinds left right : List ℕ) (most : List ℤ) (lent : Lent (F .program) kinds left right most) where
   known-lent : (ds : List Bool) (k : Three) → knownKinds kinds ds ≡ k → known (F .program) ds ≡ k
-  known-lent ds k e = known-kinds (F .program) ds ∙ ap (λ x. knownKinds x ds) (sym (lent .kinds-are)) ∙ e
+  known-lent ds k e = known-kinds (F .program) ds ∙ ap (λ x. knownKinds x ds) (sym (lent .kinds)) ∙ e
 
   module _ (truths : List ℕ) (g near : Grid) (decided : ℕ) where
     abbrev ds : List Bool
@@ -68,14 +61,13 @@ module _ (last : ℕ) (F : Formula) (kinds left right : List ℕ) (most : List �
     fast-passes (p ∷ todo) e = rw e
 
     fast-ends : length most ≤ decided → known (F .program) ds ≡ open? → fastAt last F decided truths g near ≡ openAt (weight near 0)
-    fast-ends h e = fast-end last F ds g (places (F .program)) decided (placeAt left right most decided) (weight near) (omega (arith, lent .places-are)) ∙ rw e
+    fast-ends h e = fast-end last F ds g (places (F .program)) decided nowhere (weight near) (omega (arith, lent-most (F .program) kinds left right most lent)) ∙ rw e
 
     fast-both : (h : decided < length most) → known (F .program) ds ≡ open? → fastAt last F decided truths g near ≡ join (sideOf last F (placeAt left right most decided) (drop (suc decided) (places (F .program))) ds g (weight near) true) (sideOf last F (placeAt left right most decided) (drop (suc decided) (places (F .program))) ds g (weight near) false)
     fast-both h e =
-        let p = placeAt left right most decided in
-        fast-split last F ds g (places (F .program)) decided p (weight near) (omega (arith, lent .places-are))
-        ∙ ap (λ k. calmNode k (weight near 0) (both (getD (places (F .program)) decided p))) e
-        ∙ ap both (lent .place-is decided h)
+        fast-split last F ds g (places (F .program)) decided nowhere (weight near) (omega (arith, lent-most (F .program) kinds left right most lent))
+        ∙ ap (λ k. calmNode k (weight near 0) (both (getD (places (F .program)) decided nowhere))) e
+        ∙ ap both (sym (lent-place (F .program) kinds left right most lent decided))
       where
         both : Place → Growth
         both x = join (sideOf last F x (drop (suc decided) (places (F .program))) ds g (weight near) true) (sideOf last F x (drop (suc decided) (places (F .program))) ds g (weight near) false)
@@ -159,4 +151,4 @@ module _ (last : ℕ) (F : Formula) (kinds left right : List ℕ) (most : List �
       same u v hu hv = sym (tabled-at (relax (weight near) from to k) mostVertices (suc last) near (omega (arith, ready .few)) sz u v hu hv)
 
       all-ends : Every (Ends last F) (places (F .program))
-      all-ends = all-of (Ends last F) (places (F .program)) (λ i. placeAt left right most i) (λ i l. let m : i < length most = omega (arith, lent .places-are) in rw (lent .place-is i m) (ready .facts i m true .to-is, ready .facts i m true .from-is))
+      all-ends = all-of (Ends last F) (places (F .program)) nowhere (λ i l. let m : i < length most = omega (arith, lent-most (F .program) kinds left right most lent) in rw (← lent-place (F .program) kinds left right most lent i) (ready .facts i m true .to-is, ready .facts i m true .from-is))

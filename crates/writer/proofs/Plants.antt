@@ -29,8 +29,10 @@ use Rattle.sheet.proofs.Fasts.{Same}
 use Rattle.sheet.proofs.FastAmong.{Ends, fast-table, fast-formula}
 use Rattle.sheet.proofs.Fit.{fit, present-below}
 use Rattle.sheet.proofs.Holds.{bounds-start}
+use Rattle.sheet.proofs.Lends.{lent-of}
+use Rattle.sheet.proofs.Standing.{nowhere, lent-place}
 use Rattle.sheet.proofs.NearStart.{start-far}
-use Rattle.writer.specs.Growing.{Lent, Grows, Fact, Ready, fastAt, placeAt}
+use Rattle.writer.specs.Growing.{Grows, Fact, Ready, fastAt}
 use Rattle.writer.specs.Planting.{Coded, Ranging}
 use Rattle.writer.specs.Starting.{rangeAt, rangesFrom, Ranged, NearStarts}
 use Rattle.writer.specs.declared.room.Spot.{Spot}
@@ -98,11 +100,6 @@ place-at [] P a k d h = absurd (omega arith)
 place-at (p ∷ ps) P a zero d h = a .0
 place-at (p ∷ ps) P a (suc k) d h = place-at ps P (a .1) k d (omega arith)
 
-listed : {A : Type 0} (f : Place → A) (ps : List Place) (k : ℕ) (d : Place) (e : A) → k < length ps → getD (map f ps) k e ≡ f (getD ps k d)
-listed f [] k d e h = absurd (omega arith)
-listed f (p ∷ ps) zero d e h = refl
-listed f (p ∷ ps) (suc k) d e h = listed f ps k d e (omega arith)
-
 module _ (F : Formula) (kinds : List ℕ) (n : ℕ) (left right : List ℕ) (most : List ℤ) (few : ℕ) (c : Coded F kinds n left right most few) where
   abbrev ls : List ℕ
   ls = take few left
@@ -116,25 +113,10 @@ module _ (F : Formula) (kinds : List ℕ) (n : ℕ) (left right : List ℕ) (mos
   pub lengths : (length ls ≡ few) × (length rs ≡ few) × (length ms ≡ few)
   lengths =
       let d = c .few-is in (
-        ap length (c .left-are) ∙ length-map (places (F .program)) (λ a. a .left) ∙ sym d,
-        ap length (c .right-are) ∙ length-map (places (F .program)) (λ a. a .right) ∙ sym d,
-        ap length (c .most-are) ∙ length-map (places (F .program)) (λ a. a .most) ∙ sym d,
+        ap length (c .lent .left) ∙ length-map (places (F .program)) (λ a. a .left) ∙ sym d,
+        ap length (c .lent .right) ∙ length-map (places (F .program)) (λ a. a .right) ∙ sym d,
+        ap length (c .lent .most) ∙ length-map (places (F .program)) (λ a. a .most) ∙ sym d,
       )
-
-  place-is : (k : ℕ) (d : Place) → k < length ms → getD (places (F .program)) k d ≡ placeAt ls rs ms k
-  place-is k d h =
-      let l : k < length (places (F .program)) = omega (arith, lengths .2, c .few-is) in
-      let p = getD (places (F .program)) k d in
-      made p (getD ls k 0) (getD rs k 0) (getD ms k (pos 0))
-      (ap (λ x. getD x k 0) (c .left-are) ∙ listed (λ a. a .left) (places (F .program)) k d 0 l)
-      (ap (λ x. getD x k 0) (c .right-are) ∙ listed (λ a. a .right) (places (F .program)) k d 0 l)
-      (ap (λ x. getD x k (pos 0)) (c .most-are) ∙ listed (λ a. a .most) (places (F .program)) k d (pos 0) l)
-    where
-      made : (p : Place) (a b : ℕ) (m : ℤ) → a ≡ p .left → b ≡ p .right → m ≡ p .most → p ≡ record { left = a; right = b; most = m }
-      made p a b m e f g = rw (e, f, g)
-
-  pub lent : Lent (F .program) (take n kinds) ls rs ms
-  lent = record { kinds-are = c .kinds-are; places-are = lengths .2 ∙ c .few-is; place-is = λ i h. place-is i _ h }
 
   module _ (p : Proper F) where
     last : ℕ
@@ -153,7 +135,7 @@ module _ (F : Formula) (kinds : List ℕ) (n : ℕ) (left right : List ℕ) (mos
     ready g near e s = record {
       few = p .vertices;
       as-long = (omega (arith, lengths .0, lengths .2), omega (arith, lengths .1, lengths .2), omega (arith, lengths .2, c .few-is, p .few-places));
-      facts = λ i h d. subst (λ q. Fact (length (F .ranges)) (taken q d .right) (taken q d .left) (taken q d .most)) (place-is i (placeAt ls rs ms i) h) (fact-of (getD (places (F .program)) i (placeAt ls rs ms i)) (place-at (places (F .program)) (SmallPlace (F .ranges)) (p .places-small) i (placeAt ls rs ms i) (omega (arith, lengths .2, c .few-is))) d);
+      facts = λ i h d. subst (λ q. Fact (length (F .ranges)) (taken q d .right) (taken q d .left) (taken q d .most)) (sym (lent-place (F .program) (take n kinds) ls rs ms (c .lent) i)) (fact-of (getD (places (F .program)) i nowhere) (place-at (places (F .program)) (SmallPlace (F .ranges)) (p .places-small) i nowhere (omega (arith, lengths .2, c .few-is))) d);
       closed = rw e (s .closed);
       kept = rw e (record { ceiling = start-far mostVertices (F .ranges); floor = bounds-start mostVertices (F .ranges) (p .ranges-small) .floor });
     }
@@ -193,7 +175,7 @@ near-of rs count flags lo hi near r s = subst (λ k. NearStarts k rs near) (r .c
 
 module _ (f : types.Formula) (F : Formula) (c : Compiled f F) where
   pub coded-of : Coded F (f .program .kinds) (f .program .count) (f .program .left) (f .program .right) (f .program .most) (f .program .places)
-  coded-of = let m = c .program in record { kinds-are = m .kinds; left-are = m .left; right-are = m .right; most-are = m .most; n-is = m .count; few-is = m .places }
+  coded-of = let m = c .program in record { lent = lent-of f F c; n-is = m .count; few-is = m .places }
 
   pub ranging-of : Ranging (F .ranges) (f .vertices .count) (f .vertices .present) (f .vertices .lo) (f .vertices .hi)
   ranging-of = let v = c .vertices in record { count-is = v .count; agree = v .agree; lows = v .lo; highs = v .hi }

@@ -9,9 +9,10 @@ use lib.Signed.{_≤ℤ_}
 use Rattle.ints.proofs.Bridge.{up, dn}
 use Rattle.grid.specs.Grid.{Grid, weight, tighten, far, least-weight}
 use Rattle.grid.specs.Near.{Closure}
-use Rattle.formula.specs.Program.{Program, Place, kindsOf, places}
+use Rattle.formula.specs.Program.{Place, places}
 use Rattle.formula.specs.Cells.{bit}
 use Rattle.formula.specs.Formulas.{Formula}
+use Rattle.sheet.specs.Checking.{placeAt}
 use Rattle.sheet.specs.Facts.{taken}
 use Rattle.sheet.specs.Fast.{after, half, fast}
 use Rattle.sheet.specs.Tree.{bytesOf}
@@ -23,16 +24,6 @@ use Rattle.writer.specs.declared.growing.Grown.{Grown}
 -- the decisions made so far, from their bytes
 abbrev pub decisions : List ℕ → ℕ → List Bool
 decisions truths decided = map bit (take decided truths)
-
--- place i, from the three lists that the code keeps
-abbrev pub placeAt : List ℕ → List ℕ → List ℤ → ℕ → Place
-placeAt left right most i = record { left = getD left i 0; right = getD right i 0; most = getD most i (pos 0) }
-
--- the lists are those of a program
-pub record Lent (p : Program) (kinds left right : List ℕ) (most : List ℤ) : Type 0 where
-  pub kinds-are : kinds ≡ kindsOf p
-  pub places-are : length most ≡ length (places p)
-  pub place-is : (i : ℕ) → i < length most → getD (places p) i (placeAt left right most i) ≡ placeAt left right most i
 
 -- what a growth leaves in the room and in the answer: the tree's bytes; or the values at the vertices up to the last
 abbrev pub Grows : ℕ → List ℕ → Spot → Growth → List ℕ → Grown → Type 0

@@ -3,23 +3,19 @@ use Prim.Native.Nat.{ℕ, suc}
 use mathlib.Core.Path.{_≡_}
 use mathlib.Core.Bool.{Bool, false}
 use mathlib.Core.Option.{none, some}
-use mathlib.Core.List.{List, map}
+use mathlib.Core.List.{List}
 use lib.ListN.{length, getD, take}
 use lib.IntN.{ℤ, pos}
 use Rattle.meaning.specs.Contents.{Range}
 use Rattle.formula.specs.Formulas.{Formula}
-use Rattle.formula.specs.Program.{kindsOf, places}
+use Rattle.formula.specs.Program.{places}
 use Rattle.formula.specs.Vertices.{Ranges, present}
-use Rattle.formula.specs.Spans.{Compiled}
-use Rattle.formula.specs.declared.types.Formula as types
+use Rattle.sheet.specs.Checking.{Lent}
 use Rattle.formula.proofs.Proper.{Proper}
 
--- the first n kinds and the first so many places are the program's
+-- the first n kinds and the first so many places are the program's, and that is all of it
 pub record Coded (F : Formula) (kinds : List ℕ) (n : ℕ) (left right : List ℕ) (most : List ℤ) (few : ℕ) : Type 0 where
-  pub kinds-are : take n kinds ≡ kindsOf (F .program)
-  pub left-are : take few left ≡ map (λ a. a .left) (places (F .program))
-  pub right-are : take few right ≡ map (λ a. a .right) (places (F .program))
-  pub most-are : take few most ≡ map (λ a. a .most) (places (F .program))
+  pub lent : Lent (F .program) (take n kinds) (take few left) (take few right) (take few most)
   pub n-is : n ≡ length (F .program)
   pub few-is : few ≡ length (places (F .program))
 
@@ -35,10 +31,4 @@ pub record Plantable (kinds : List ℕ) (n : ℕ) (left right : List ℕ) (most 
   pub formula : Formula
   pub coded : Coded formula kinds n left right most few
   pub ranging : Ranging (formula .ranges) count flags lo hi
-  pub proper : Proper formula
-
--- a compiled formula that is some proper formula's
-pub record Sowable (f : types.Formula) : Type 0 where
-  pub formula : Formula
-  pub compiled : Compiled f formula
   pub proper : Proper formula

@@ -20,9 +20,10 @@ ghost use Rattle.formula.specs.Cells.{threeOf};
 ghost use Rattle.sheet.specs.Tree.{bytesOf, cycle};
 ghost use Rattle.grid.specs.Grid.{weight, row};
 ghost use Rattle.grid.specs.Search.{search};
+ghost use Rattle.sheet.specs.Checking.{Lent};
 ghost use Rattle.sheet.specs.Fast.{strainedNode, cycleOf};
 ghost use Rattle.writer.specs.Room.{filling, puts};
-ghost use Rattle.writer.specs.Growing.{Grows, decisions, Lent, Fact, Kept, Ready, cutBytes, fastAt, sideBy};
+ghost use Rattle.writer.specs.Growing.{Grows, decisions, Fact, Kept, Ready, cutBytes, fastAt, sideBy};
 
 // A formula's tree was written up to a spot; or it is open, with the values at its vertices.
 pub struct Grown {

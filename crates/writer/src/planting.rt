@@ -12,7 +12,8 @@ ghost use Rattle.formula.proofs.Proper.{Proper};
 ghost use Rattle.sheet.specs.Sheet.{lastVertex};
 ghost use Rattle.sheet.specs.Grow.{growTree};
 ghost use Rattle.writer.specs.Growing.{Grows};
-ghost use Rattle.writer.specs.Planting.{Coded, Ranging, Plantable, Sowable};
+ghost use Rattle.sheet.specs.Checking.{Fine};
+ghost use Rattle.writer.specs.Planting.{Coded, Ranging, Plantable};
 
 pub fn plant(
     room: &mut [u8],
@@ -50,7 +51,7 @@ pub fn plant(
 
 // The same of a compiled formula.
 pub fn plant_formula(room: &mut [u8], spot: Spot, f: Formula) -> Grown
-    requires { ⌜ Sowable f ⌝ }
+    requires { ⌜ Fine f ⌝ }
     ensures { λ r. ⌜ ((F : written.Formula) → Compiled f F → Proper F → Grows (length (F .ranges)) (now (room .entry)) spot (growTree lastVertex F) (now (room .exit)) r) ⌝ }
 {
     let p = f.program;

@@ -4,18 +4,18 @@ use crate::room::put;
 use formula::seeing::vertex_at;
 use ints::weights::wide;
 use question::types::Question;
-use question::types::Row;
 use question::types::Verb;
-ghost use Prim.Native.Nat.{ℕ, _≤_, _<_};
+use sheet::allowing::row_at;
+ghost use Prim.Native.Nat.{_≤_, _<_};
 ghost use mathlib.Core.Path.{_≡_};
 ghost use mathlib.Core.Option.{none, some};
-ghost use mathlib.Core.List.{[], _++_, map};
+ghost use mathlib.Core.List.{_++_, map};
 ghost use lib.ListN.{getD, take, replicate};
 ghost use mir.Syntax.{w32};
 ghost use mir.Val.{ofZ};
 ghost use Rattle.ints.specs.Bytes.{bytes4};
 ghost use Rattle.meaning.specs.Contents.{look};
-ghost use Rattle.question.specs.Held.{rowOf, questionOf};
+ghost use Rattle.question.specs.Held.{questionOf};
 ghost use Rattle.formula.specs.Formulas.{Formula};
 ghost use Rattle.formula.specs.Program.{Values};
 ghost use Rattle.formula.specs.Seen.{Whole};
@@ -47,14 +47,6 @@ fn put_value(room: &mut [u8], spot: Spot, z: i64) -> Spot
     let two = put(room, one, (n / 256 % 256) as u8);
     let three = put(room, two, (n / 65536 % 256) as u8);
     put(room, three, (n / 16777216 % 256) as u8)
-}
-
-// One of the inserted rows.
-fn row_at(rows: [Row; 4], count: usize, i: usize) -> Row
-    requires { ⌜ (i < count) × (count ≤ 4) ⌝ }
-    ensures { λ r. ⌜ ((width : ℕ) → rowOf width r ≡ getD (map (rowOf width) (take count rows)) i []) ⌝ }
-{
-    rows[i]
 }
 
 // A row's values, the first of them in column `first`: the one in column c, else this one.

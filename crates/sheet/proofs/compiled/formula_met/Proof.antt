@@ -21,7 +21,7 @@ returns : tie.Need-returns
 returns c = λ F q is e.
     let a = c .before .before .before .before .before .before .before .before .args in
     let s = a .sheet .now in
-    c .lent-met .ensures F (readValues q F s) _ (lent-of (a .f) F is) (λ v. c .before .values .ensures .values v ∙ ap (λ n. seen s n v) e ∙ seen-read q F s v)
+    c .lent-met .ensures F (readValues q F s) (lent-of (a .f) F is) (λ v. c .before .values .ensures .values v ∙ ap (λ n. seen s n v) e ∙ seen-read q F s v)
 
 pub formula-met-spec : {M : Type 1} → statement M
 formula-met-spec = tie.close (tie.spec values-requires lent-met-requires returns)

@@ -1,5 +1,5 @@
 use mathlib.Core.Path.{_∙_}
-use Rattle.sheet.proofs.Lends.{lent-of, count-few, places-few, places-of, spanned-of, small-of, same-few}
+use Rattle.sheet.proofs.Lends.{lent-of, shows-of, count-few, places-few, places-of, spanned-of, small-of, same-few}
 use Rattle.sheet.proofs.Standing.{left-all}
 use Rattle.sheet.proofs.compiled.formula_tree.Statement.{statement}
 use Rattle.sheet.proofs.compiled.formula_tree.Tie as tie
@@ -20,7 +20,7 @@ returns c = λ F base is.
     let f = s .args .f in
     let i = s .pre in
     let g = c .before .start .ensures .meaning (F .ranges) (spanned-of f F is (same-few f (i .formula) F (i .is) is (i .proper .vertices))) in
-    (rw g at (c .lent-tree .ensures F base (lent-of f F is))) ∙ left-all F (f .program .places) _ base (s .args .part .now) (is .program .places)
+    (rw g at (c .lent-tree .ensures F base (lent-of f F is) (shows-of f F is))) ∙ left-all F (f .program .places) _ base (s .args .part .now) (is .program .places)
 
 pub formula-tree-spec : {M : Type 1} → statement M
 formula-tree-spec = tie.close (tie.spec start-requires lent-tree-requires returns)

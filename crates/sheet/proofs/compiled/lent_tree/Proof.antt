@@ -43,9 +43,9 @@ tree-requires c κs =
     (record { short = omega (arith, short, s .pre .0); places = s .pre .2; flags = omega (arith, s .good .1 .1 .1 .1 .1 .1 .0) }, (omega (arith, all), s .pre .3))
 
 returns : tie.Need-returns
-returns c = λ F base lent.
+returns c = λ F base lent shows.
     let z : base + 0 ≡ base = omega arith in
-    rw z at (c .tree .ensures F base lent)
+    rw z at (c .tree .ensures F base lent shows)
 
 pub lent-tree-spec : {M : Type 1} → statement M
 lent-tree-spec =

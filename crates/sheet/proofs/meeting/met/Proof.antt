@@ -30,22 +30,22 @@ enum-told-3 : tie.Need-enum-told-3
 enum-told-3 c = search needs
 
 returns : tie.Need-returns
-returns c = λ F x flags lent same.
+returns c = λ F x lent same.
     let s = c .before .before .before .before .before .before .before .before in
     let a = s .args in
-    sym (met-settles F (a .kinds .now) (a .left .now) (a .right .now) (a .most .now) flags lent x (a .values) same (c .before .before .before .before .decisions .result) (c .before .before .before .before .decisions .ensures) (s .pre .1 .few) _ (sym (ap threeOf (c .enum-told .given .1)) ∙ c .before .before .known .ensures))
+    sym (met-settles F (a .kinds .now) (a .left .now) (a .right .now) (a .most .now) lent x (a .values) same (c .before .before .before .before .decisions .result) (c .before .before .before .before .decisions .ensures) (s .pre .1 .few) _ (sym (ap threeOf (c .enum-told .given .1)) ∙ c .before .before .known .ensures))
 
 returns-2 : tie.Need-returns-2
-returns-2 c = λ F x flags lent same.
+returns-2 c = λ F x lent same.
     let s = c .before .before .before .before .before .before .before .before in
     let a = s .args in
-    sym (met-settles F (a .kinds .now) (a .left .now) (a .right .now) (a .most .now) flags lent x (a .values) same (c .before .before .before .before .decisions .result) (c .before .before .before .before .decisions .ensures) (s .pre .1 .few) _ (sym (ap threeOf (c .enum-told2 .given .1)) ∙ c .before .before .known .ensures))
+    sym (met-settles F (a .kinds .now) (a .left .now) (a .right .now) (a .most .now) lent x (a .values) same (c .before .before .before .before .decisions .result) (c .before .before .before .before .decisions .ensures) (s .pre .1 .few) _ (sym (ap threeOf (c .enum-told2 .given .1)) ∙ c .before .before .known .ensures))
 
 returns-3 : tie.Need-returns-3
-returns-3 c = λ F x flags lent same.
+returns-3 c = λ F x lent same.
     let s = c .before .before .before .before .before .before .before .before in
     let a = s .args in
-    absurd (met-settles F (a .kinds .now) (a .left .now) (a .right .now) (a .most .now) flags lent x (a .values) same (c .before .before .before .before .decisions .result) (c .before .before .before .before .decisions .ensures) (s .pre .1 .few) _ (sym (ap threeOf (c .enum-told3 .given .1)) ∙ c .before .before .known .ensures))
+    absurd (met-settles F (a .kinds .now) (a .left .now) (a .right .now) (a .most .now) lent x (a .values) same (c .before .before .before .before .decisions .result) (c .before .before .before .before .decisions .ensures) (s .pre .1 .few) _ (sym (ap threeOf (c .enum-told3 .given .1)) ∙ c .before .before .known .ensures))
 
 pub met-spec : {M : Type 1} → statement M
 met-spec =

@@ -8,7 +8,8 @@ use mir.Facts.{toZ-ofZ}
 use Rattle.meaning.specs.Limits.{mostVertices}
 use Rattle.grid.proofs.Round.{below-at}
 use Rattle.sheet.specs.Facts.{decide}
-use Rattle.sheet.proofs.Standing.{placeAt, left-end, left-false, left-cycle, left-other, left-none, left-bad, left-both}
+use Rattle.sheet.specs.Checking.{placeAt}
+use Rattle.sheet.proofs.Standing.{left-end, left-false, left-cycle, left-other, left-none, left-bad, left-both}
 use Rattle.sheet.proofs.Bounds.{decide-within}
 use Prim.Native.Nat.{ℕ, _<_}
 use borrow.Fn.Kinds.{In}
@@ -36,7 +37,7 @@ calls t =
     (false-leaf-reads.Asked, false-leaf-reads.Learnt, cycle-reads.Asked, cycle-reads.Learnt, decide-reads.Asked, decide-reads.Learnt, tree-below t, tree.Post)
 
 tree-returns : (t : ℕ) → tree-lts.Need-returns (calls t) (tree-at t) tree.Post
-tree-returns t c = λ F base lent. let a = c .before .before .before .before .before .before .args in left-end F (a .truths) (a .g) (a .part .now) (a .at) base (a .todo) (c .if1 .taken)
+tree-returns t c = λ F base lent shows. let a = c .before .before .before .before .before .before .args in left-end F (a .truths) (a .g) (a .part .now) (a .at) base (a .todo) (c .if1 .taken)
 
 tree-shared-slice-read-node : (t : ℕ) → tree-lts.Need-shared-slice-read-node (calls t) (tree-at t) tree.Post
 tree-shared-slice-read-node t c = search needs
@@ -48,7 +49,7 @@ tree-false-leaf-requires : (t : ℕ) → tree-lts.Need-false-leaf-requires (call
 tree-false-leaf-requires t c κs = let s = c .before .before .before .before .before .before .before .before in (s .pre .1 .0 .short, omega (arith, s .pre .1 .0 .places .few), c .before .before .if1 .left)
 
 tree-returns-2 : (t : ℕ) → tree-lts.Need-returns-2 (calls t) (tree-at t) tree.Post
-tree-returns-2 t c = λ F base lent.
+tree-returns-2 t c = λ F base lent shows.
     let a = c .before .before .before .before .before .before .before .before .before .args in
     c .false-leaf .ensures base ∙ rw (lent .kinds) (left-false F (a .truths) (a .g) (a .part .now) (a .at) base (a .todo) (c .before .before .before .if1 .left) (length (a .left .now) - a .todo) (ap (λ n. n - a .todo) (ap length (lent .left) ∙ simp length-map)) (c .before .if2 .taken))
 
@@ -56,17 +57,17 @@ tree-cycle-requires : (t : ℕ) → tree-lts.Need-cycle-requires (calls t) (tree
 tree-cycle-requires t c κs = let s = c .before .before .before .before .before .before .before .before .before in ((s .pre .1 .0 .flags, c .before .before .before .if1 .left), s .pre .1 .1 .1)
 
 tree-returns-3 : (t : ℕ) → tree-lts.Need-returns-3 (calls t) (tree-at t) tree.Post
-tree-returns-3 t c = λ F base lent.
+tree-returns-3 t c = λ F base lent shows.
     let a = c .before .before .before .before .before .before .before .before .before .before .args in
-    c .cycle .ensures F base (lent .shown) ∙ left-cycle F (a .truths) (a .g) (a .part .now) (a .at) base (a .todo) (c .before .before .before .before .if1 .left) (c .before .if3 .taken)
+    c .cycle .ensures F base shows ∙ left-cycle F (a .truths) (a .g) (a .part .now) (a .at) base (a .todo) (c .before .before .before .before .if1 .left) (c .before .if3 .taken)
 
 tree-returns-4 : (t : ℕ) → tree-lts.Need-returns-4 (calls t) (tree-at t) tree.Post
-tree-returns-4 t c = λ F base lent.
+tree-returns-4 t c = λ F base lent shows.
     let a = c .before .before .before .before .before .before .before .before .before .before .args in
     left-other F (a .truths) (a .g) (a .part .now) (a .at) base (a .todo) (c .before .before .before .before .if1 .left) (c .before .before .if2 .left) (c .before .if3 .left) (c .if4 .taken)
 
 tree-returns-5 : (t : ℕ) → tree-lts.Need-returns-5 (calls t) (tree-at t) tree.Post
-tree-returns-5 t c = λ F base lent.
+tree-returns-5 t c = λ F base lent shows.
     let a = c .before .before .before .before .before .before .before .before .before .before .before .args in
     left-none F (a .truths) (a .g) (a .part .now) (a .at) base (a .todo) (c .before .before .before .before .before .if1 .left) (c .before .if4 .left) (c .if5 .taken)
 
@@ -135,25 +136,25 @@ tree-enum-known-one-2 : (t : ℕ) → tree-lts.Need-enum-known-one-2 (calls t) (
 tree-enum-known-one-2 t c = search needs
 
 tree-returns-6 : (t : ℕ) → tree-lts.Need-returns-6 (calls t) (tree-at t) tree.Post
-tree-returns-6 t c = λ F base lent.
+tree-returns-6 t c = λ F base lent shows.
     let e = c .before .before .before .before .before in
     let s = e .before .before .before .before .before .before .before .before .before .before .before .before .before .before .before .before in
     let a = s .args in
     let l = a .left .now in
     let d = length l - a .todo in
-    left-both F (a .truths) (a .g) (a .part .now) (a .at) base (a .todo) (e .before .before .before .before .before .before .before .before .before .before .if1 .left) (e .before .before .before .before .before .before .if4 .left) (a .kinds .now) l (a .right .now) (a .most .now) (a .shown .now) lent (e .before .before .before .before .before .if5 .left) (s .pre .1 .1 .0) d refl (omega (arith, s .good .1 .1 .1 .1 .1 .1 .1 .0, s .pre .1 .0 .places .few, s .pre .1 .1 .0, e .before .before .before .before .before .if5 .left)) (c .before .before .before .one .given .0 .0) _
-    (rw (first-fact t (e .before), c .before .before .before .one .given .1) at (e .tree .ensures F base lent))
-    (rw (second-fact t (c .before)) at (c .tree2 .ensures F base lent))
+    left-both F (a .truths) (a .g) (a .part .now) (a .at) base (a .todo) (e .before .before .before .before .before .before .before .before .before .before .if1 .left) (e .before .before .before .before .before .before .if4 .left) (a .kinds .now) l (a .right .now) (a .most .now) lent (e .before .before .before .before .before .if5 .left) (s .pre .1 .1 .0) d refl (omega (arith, s .good .1 .1 .1 .1 .1 .1 .1 .0, s .pre .1 .0 .places .few, s .pre .1 .1 .0, e .before .before .before .before .before .if5 .left)) (c .before .before .before .one .given .0 .0) _
+    (rw (first-fact t (e .before), c .before .before .before .one .given .1) at (e .tree .ensures F base lent shows))
+    (rw (second-fact t (c .before)) at (c .tree2 .ensures F base lent shows))
 
 tree-returns-7 : (t : ℕ) → tree-lts.Need-returns-7 (calls t) (tree-at t) tree.Post
-tree-returns-7 t c = λ F base lent.
+tree-returns-7 t c = λ F base lent shows.
     let e = c .before .before .before in
     let s = e .before .before .before .before .before .before .before .before .before .before .before .before .before .before .before .before in
     let a = s .args in
     let l = a .left .now in
     let d = length l - a .todo in
-    left-bad F (a .truths) (a .g) (a .part .now) (a .at) base (a .todo) (e .before .before .before .before .before .before .before .before .before .before .if1 .left) (e .before .before .before .before .before .before .if4 .left) (a .kinds .now) l (a .right .now) (a .most .now) (a .shown .now) lent (e .before .before .before .before .before .if5 .left) (s .pre .1 .1 .0) d refl (omega (arith, s .good .1 .1 .1 .1 .1 .1 .1 .0, s .pre .1 .0 .places .few, s .pre .1 .1 .0, e .before .before .before .before .before .if5 .left)) _ _
-    (rw (first-fact t (e .before), c .before .one2 .given .1) at (e .tree .ensures F base lent))
+    left-bad F (a .truths) (a .g) (a .part .now) (a .at) base (a .todo) (e .before .before .before .before .before .before .before .before .before .before .if1 .left) (e .before .before .before .before .before .before .if4 .left) (a .kinds .now) l (a .right .now) (a .most .now) lent (e .before .before .before .before .before .if5 .left) (s .pre .1 .1 .0) d refl (omega (arith, s .good .1 .1 .1 .1 .1 .1 .1 .0, s .pre .1 .0 .places .few, s .pre .1 .1 .0, e .before .before .before .before .before .if5 .left)) _ _
+    (rw (first-fact t (e .before), c .before .one2 .given .1) at (e .tree .ensures F base lent shows))
 
 pub +tree-spec : {M : Type 1} → statement M
 +tree-spec = close μ-tree λ t. tree-lts.spec (calls t)

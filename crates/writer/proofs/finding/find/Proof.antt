@@ -7,10 +7,11 @@ use denote.Ref.{now}
 use lib.ListN.{length}
 use Rattle.question.specs.Held.{questionOf}
 use Rattle.formula.specs.Formulas.{formulas}
-use Rattle.formula.specs.Able.{formulaAt}
+use Rattle.formula.specs.Able.{noFormula, formulaAt}
 use Rattle.formula.proofs.Proper.{Proper, formulas-proper}
+use Rattle.sheet.proofs.Findings.{all-at}
 use Rattle.sheet.specs.Sheet.{findingOf}
-use Rattle.writer.proofs.Finds.{Sown, every-at, sown-start, sown-more, found-first, found-none}
+use Rattle.writer.proofs.Finds.{Sown, sown-start, sown-more, found-first, found-none}
 use Rattle.writer.proofs.finding.find.Statement.{statement}
 use Rattle.writer.proofs.finding.find.Tie as tie
 
@@ -36,7 +37,7 @@ plant-formula-requires : tie.Need-plant-formula-requires Inv-loop μ-loop
 plant-formula-requires c κs =
     let s = c .before .before .before .before .before .before in
     let h : c .before .before .before .loop .i < length (formulas (questionOf (s .args .q)) (s .args .asked)) = omega (arith, c .before .before .loop-test .taken, c .before .before .before .before .formula-count .ensures) in
-    record { formula = formulaAt (formulas (questionOf (s .args .q)) (s .args .asked)) (c .before .before .before .loop .i); compiled = c .before .formula .ensures; proper = every-at (formulas (questionOf (s .args .q)) (s .args .asked)) Proper (formulas-proper (questionOf (s .args .q)) (s .pre .1) (s .args .asked)) (c .before .before .before .loop .i) h }
+    record { formula = formulaAt (formulas (questionOf (s .args .q)) (s .args .asked)) (c .before .before .before .loop .i); is = c .before .formula .ensures; proper = all-at Proper (formulas (questionOf (s .args .q)) (s .args .asked)) (formulas-proper (questionOf (s .args .q)) (s .pre .1) (s .args .asked)) (c .before .before .before .loop .i) noFormula h }
 
 same-length : tie.Need-same-length Inv-loop μ-loop
 same-length c = search needs
@@ -47,7 +48,7 @@ returns c =
     let s = c .before .before .before .before .before .before .before .before .before .before .before in
     let at = c .before .before .before .before .before .before .before .before .loop in
     let h : c .before .before .before .before .before .before .before .before .loop .i < length (formulas (questionOf (s .args .q)) (s .args .asked)) = omega (arith, c .before .before .before .before .before .before .before .loop-test .taken, c .before .before .before .before .before .before .before .before .before .formula-count .ensures) in
-    let proper = every-at (formulas (questionOf (s .args .q)) (s .args .asked)) Proper (formulas-proper (questionOf (s .args .q)) (s .pre .1) (s .args .asked)) (at .i) h in
+    let proper = all-at Proper (formulas (questionOf (s .args .q)) (s .args .asked)) (formulas-proper (questionOf (s .args .q)) (s .pre .1) (s .args .asked)) (at .i) noFormula h in
     let grown = c .before .before .before .before .plant-formula .ensures (formulaAt (formulas (questionOf (s .args .q)) (s .args .asked)) (at .i)) (c .before .before .before .before .before .before .formula .ensures) proper in
     found-first (formulas (questionOf (s .args .q)) (s .args .asked)) (now (s .args .room)) (s .args .spot) (at .i) (at .room) (at .next) (at .inv .2) h 0 _ (c .before .before .before .before .plant-formula .result) _ (c .if1 .taken) grown refl refl (c .before .before .before .before .before .before .formula .ensures .pairs) refl
 
@@ -62,7 +63,7 @@ loop-again c =
     let s = c .before .before .before .before .before .before .before .before .before .before .before .before in
     let at = c .before .before .before .before .before .before .before .before .before .loop in
     let h : c .before .before .before .before .before .before .before .before .before .loop .i < length (formulas (questionOf (s .args .q)) (s .args .asked)) = omega (arith, c .before .before .before .before .before .before .before .before .loop-test .taken, c .before .before .before .before .before .before .before .before .before .before .formula-count .ensures) in
-    let proper = every-at (formulas (questionOf (s .args .q)) (s .args .asked)) Proper (formulas-proper (questionOf (s .args .q)) (s .pre .1) (s .args .asked)) (at .i) h in
+    let proper = all-at Proper (formulas (questionOf (s .args .q)) (s .args .asked)) (formulas-proper (questionOf (s .args .q)) (s .pre .1) (s .args .asked)) (at .i) noFormula h in
     let grown = c .before .before .before .before .before .plant-formula .ensures (formulaAt (formulas (questionOf (s .args .q)) (s .args .asked)) (at .i)) (c .before .before .before .before .before .before .before .formula .ensures) proper in
     (search needs, search needs, sown-more (formulas (questionOf (s .args .q)) (s .args .asked)) (now (s .args .room)) (s .args .spot) (at .i) (at .room) (at .next) (at .inv .2) h _ _ (c .before .before .before .before .before .plant-formula .result) (c .before .if1 .left) grown)
 

@@ -4,7 +4,7 @@ use mathlib.Core.Path.{sym}
 use denote.Ref.{now}
 use lib.ListN.{length, take}
 use lib.Seq.{length-take-le}
-use Rattle.writer.proofs.Plants.{small-spans, ranged, spanned, lengths, lent, root-ready, root-grows, near-of}
+use Rattle.writer.proofs.Plants.{small-spans, ranged, spanned, lengths, root-ready, root-grows, near-of}
 use borrow.Author.Needs.{needs}
 use Rattle.writer.proofs.planting.plant.Statement.{statement}
 use Rattle.writer.proofs.planting.plant.Tie as tie
@@ -72,7 +72,7 @@ returns : tie.Need-returns
 returns c =
     let s = c .before .before .before .before .before .before .before .before .before .before .before in
     let a = s .args in
-    λ F coded ranging proper. root-grows F _ _ _ _ _ _ coded proper (a .count - 1) (length (take (a .few) (a .t7)) - a .few) (omega (arith, ranging .count-is)) (omega (arith, lengths F _ _ _ _ _ _ coded .2)) _ _ _ (c .before .before .before .before .before .before .before .before .before .start .ensures .meaning _ (spanned _ _ _ _ _ ranging (proper .ranges-small) (proper .vertices))) (near-of _ _ _ _ _ _ ranging (c .before .before .before .before .before .before .before .before .near-start .ensures)) (now (a .room)) (a .spot) _ _ (c .before .before .grow .ensures F (lent F _ _ _ _ _ _ coded))
+    λ F coded ranging proper. root-grows F _ _ _ _ _ _ coded proper (a .count - 1) (length (take (a .few) (a .t7)) - a .few) (omega (arith, ranging .count-is)) (omega (arith, lengths F _ _ _ _ _ _ coded .2)) _ _ _ (c .before .before .before .before .before .before .before .before .before .start .ensures .meaning _ (spanned _ _ _ _ _ ranging (proper .ranges-small) (proper .vertices))) (near-of _ _ _ _ _ _ ranging (c .before .before .before .before .before .before .before .before .near-start .ensures)) (now (a .room)) (a .spot) _ _ (c .before .before .grow .ensures F (coded .lent))
 
 pub plant-spec : {M : Type 1} → statement M
 plant-spec =
