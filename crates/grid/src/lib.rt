@@ -68,18 +68,16 @@ pub fn near_blank() -> [[i64; VERTICES]; VERTICES]
 }
 
 // One row of the least sums with a new edge: reach is the sum of the way to the edge and along it, on the row of the way on.
-fn relax_row(row: [i64; VERTICES], on: [i64; VERTICES], n: usize, reach: i64) -> [i64; VERTICES]
-    requires { ⌜ n ≤ mostVertices ⌝ }
+fn relax_row(row: &mut [i64], on: &[i64], n: usize, reach: i64)
+    requires { ⌜ (n ≤ length (now row)) × (n ≤ length (now on)) ⌝ }
     requires { ⌜ Bounded wide reach ⌝ }
-    requires { ⌜ RowWithin wide n on ⌝ }
-    ensures { λ r. ⌜ r ≡ filled (λ v. minZ (getD row v (pos 0)) (reach +ℤ getD on v (pos 0))) n row ⌝ }
+    requires { ⌜ RowWithin wide n (now on) ⌝ }
+    ensures { λ _. ⌜ now (row .exit) ≡ filled (λ v. minZ (getD (now (row .entry)) v (pos 0)) (reach +ℤ getD (now (on .entry)) v (pos 0))) n (now (row .entry)) ⌝ }
 {
-    let mut h = row;
     for v in 0..n {
         let round = reach + on[v];
-        h[v] = lesser(row[v], round);
+        row[v] = lesser(row[v], round);
     }
-    h
 }
 
 // The least sums with a new edge from b to a of weight k.
@@ -98,10 +96,8 @@ pub fn relax(
     let mut h = near;
     let on = near[a];
     for u in 0..n {
-        let row = near[u];
-        let reach = row[b] + k;
-        let new = relax_row(row, on, n, reach);
-        h[u] = new;
+        let reach = near[u][b] + k;
+        relax_row(&mut h[u], &on, n, reach);
     }
     h
 }
