@@ -15,7 +15,8 @@ use Rattle.formula.specs.Formulas.{Formula, inserted, unlessAlone, irrelevance,
 use Rattle.formula.specs.Program.{Values}
 use Rattle.formula.proofs.Proper.{formulas-proper}
 use Rattle.sheet.specs.Rows.{fields, noBytes}
-use Rattle.sheet.specs.Sheet.{lastVertex, header, sayYes, sayNo, sheetFor, verdictFor, findingOf, noFormula}
+use Rattle.formula.specs.Able.{noFormula}
+use Rattle.sheet.specs.Sheet.{lastVertex, header, sayYes, sayNo, sheetFor, verdictFor, findingOf}
 use Rattle.sheet.specs.Trees.{Finding, allShut, firstOpen, bytesAll}
 use Rattle.sheet.specs.declared.types.Verdict.the-variants.{Yes, No}
 use Rattle.sheet.proofs.Findings.{no-found, opens-at}

@@ -23,7 +23,8 @@ use Rattle.sheet.specs.Facts.{start, decide}
 use Rattle.sheet.specs.Tree.{Outcome, passed, refused, andThen, Vertices, got, lacking, more, vertices, falseNode, cycleEnd, node, check}
 use Rattle.sheet.specs.Trees.{checkTrees}
 use Rattle.sheet.specs.Rows.{fieldAt, valueAt, fieldOk, fields, readValues}
-use Rattle.sheet.specs.Sheet.{sayNo, Answer, says, refusal, field, yesEnd, checkYes, checkFields, noEnd, noFormula, checkRows, checkNo, checkBody, marked, versioned, checkSheet}
+use Rattle.formula.specs.Able.{noFormula}
+use Rattle.sheet.specs.Sheet.{sayNo, Answer, says, refusal, field, yesEnd, checkYes, checkFields, noEnd, checkRows, checkNo, checkBody, marked, versioned, checkSheet}
 use Rattle.sheet.specs.Answers.{checkFor, checkOf}
 
 -- a number of the sheet's own

@@ -1,7 +1,7 @@
 -- A compiled formula, lent part by part: it is the formula, it fits, and its weights are small.
 use Prim.Native.Nat.{ℕ, zero, suc, _≤_, _<_}
 use mathlib.Core.Path.{_≡_, refl, sym, ap, subst, _∙_}
-use mathlib.Core.Bool.{true, false}
+use mathlib.Core.Bool.{Bool, true, false}
 use mathlib.Core.Option.{Option, none, some}
 use mathlib.Core.List.{List, [], _∷_, map}
 use native.Mathlib.Omega.{arith}
@@ -45,6 +45,23 @@ small-range : (rs : Ranges) → Every SmallRange rs → (k : ℕ) (g : Range) �
 small-range [] a k g e = absurd (subst (λ o. T (isSome o)) (sym e) tt)
 small-range (r ∷ rs) a zero g e = let b = subst SmallRange e (a .0) in (record { high = omega (arith, b .2); low = omega (arith, b .3) }, record { high = omega (arith, b .0); low = omega (arith, b .1) })
 small-range (r ∷ rs) a (suc k) g e = small-range rs (a .1) k g e
+
+-- the lists that the code keeps of the ranges
+module _ (rs : Ranges) (flags : List Bool) (lo hi : List ℤ) (spans : Spanned rs flags lo hi) where
+  -- a vertex that is there has a range
+  pub flagged : (k : ℕ) → getD flags (suc k) false ≡ true → (g : Range) × (getD rs k none ≡ some g)
+  flagged k t = go (getD rs k none) refl (sym (spans .shows .agree (suc k)) ∙ t)
+    where
+      go : (o : Option Range) → getD rs k none ≡ o → isSome o ≡ true → (g : Range) × (getD rs k none ≡ some g)
+      go none e u = absurd (subst T (sym u) tt)
+      go (some g) e u = (g, e)
+
+  pub small-spans : Every SmallRange rs → SmallSpans flags lo hi
+  small-spans small =
+      record {
+        low = λ k t. let r = flagged k t in rw (spans .lows k (r .0) (r .1)) (small-range rs small k (r .0) (r .1) .0);
+        high = λ k t. let r = flagged k t in rw (spans .highs k (r .0) (r .1)) (small-range rs small k (r .0) (r .1) .1);
+      }
 
 module _ (f : compiled.Formula) (F : Formula) (is : Compiled f F) where
   abbrev ks : List ℕ
@@ -102,20 +119,6 @@ module _ (f : compiled.Formula) (F : Formula) (is : Compiled f F) where
 
     pub lendable-of : length (f .vertices .present) ≤ mostVertices → Lendable ks ls rs ms (f .vertices .present)
     lendable-of h = record { short = omega (arith, ap length (is .program .kinds), kinds-length (F .program), proper .short); places = places-of; flags = h }
-
-    there : (k : ℕ) → getD (f .vertices .present) (suc k) false ≡ true → (g : Range) × (getD (F .ranges) k none ≡ some g)
-    there k t = go (getD (F .ranges) k none) refl (sym (is .vertices .agree (suc k)) ∙ t)
-      where
-        go : (o : Option Range) → getD (F .ranges) k none ≡ o → isSome o ≡ true → (g : Range) × (getD (F .ranges) k none ≡ some g)
-        go none e u = absurd (subst T (sym u) tt)
-        go (some g) e u = (g, e)
-
-    pub small-of : SmallSpans (f .vertices .present) (f .vertices .lo) (f .vertices .hi)
-    small-of =
-        record {
-          low = λ k t. let r = there k t in rw (is .vertices .lo k (r .0) (r .1)) (small-range (F .ranges) (proper .ranges-small) k (r .0) (r .1) .0);
-          high = λ k t. let r = there k t in rw (is .vertices .hi k (r .0) (r .1)) (small-range (F .ranges) (proper .ranges-small) k (r .0) (r .1) .1);
-        }
 
 -- two formulas of one compiled one have equally many vertices
 pub same-few : (f : compiled.Formula) (F G : Formula) → Compiled f F → Compiled f G → length (F .ranges) < mostVertices → length (G .ranges) < mostVertices

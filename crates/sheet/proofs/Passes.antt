@@ -15,7 +15,8 @@ use Rattle.formula.specs.Program.{truth}
 use Rattle.formula.proofs.Usable.{Exists}
 use Rattle.question.specs.Accepted.{Every}
 use Rattle.sheet.specs.Rows.{valueAt, width, fields, fieldAt, firstRead, secondRead, readValues, inColumn, secondOk, fieldOk}
-use Rattle.sheet.specs.Sheet.{marked, Verdict, sayYes, sayNo, says, refusal, yesEnd, checkYes, noEnd, noFormula, checkRows, checkNo, checkBody, versioned, checkSheet}
+use Rattle.formula.specs.Able.{noFormula}
+use Rattle.sheet.specs.Sheet.{marked, Verdict, sayYes, sayNo, says, refusal, yesEnd, checkYes, noEnd, checkRows, checkNo, checkBody, versioned, checkSheet}
 use Rattle.sheet.specs.Tree.{Outcome, passed, refused}
 use Rattle.sheet.specs.Trees.{checkTrees}
 use Rattle.sheet.proofs.Fields.{field-says, FieldsOk, fields-say, field-first, field-second}

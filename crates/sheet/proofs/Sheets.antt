@@ -24,7 +24,8 @@ use Rattle.formula.proofs.Usable.{Exists, Usable, usable}
 use Rattle.question.specs.Accepted.{Every, Accepted}
 use Rattle.sheet.specs.Demands.{Meant, Broken, named, shownFirst, shownSecond}
 use Rattle.sheet.specs.Rows.{firstRow, secondRow, noBytes, fixed}
-use Rattle.sheet.specs.Sheet.{lastVertex, sayYes, sayNo, says, sheetFor, verdictFor, findingOf, sheetOf, noFormula, checkSheet}
+use Rattle.formula.specs.Able.{noFormula}
+use Rattle.sheet.specs.Sheet.{lastVertex, sayYes, sayNo, says, sheetFor, verdictFor, findingOf, sheetOf, checkSheet}
 use Rattle.sheet.specs.Trees.{Finding, allShut, firstOpen, bytesAll}
 use Rattle.sheet.proofs.Agreed.{agree-at, pairs-of}
 use Rattle.sheet.proofs.Findings.{Fails, yes-found, yes-sound, no-found, opens-at, not-all}

@@ -14,7 +14,7 @@ use Rattle.formula.proofs.Usable.{Exists}
 use Rattle.question.specs.Accepted.{Every}
 use Rattle.sheet.specs.Demands.{shownFirst, shownSecond}
 use Rattle.sheet.specs.Rows.{firstRead, secondRead}
-use Rattle.sheet.specs.Sheet.{noFormula}
+use Rattle.formula.specs.Able.{noFormula}
 use Rattle.sheet.proofs.Agreed.{agree-at, pairs-of}
 use Rattle.sheet.proofs.Fit.{from-true}
 use Rattle.sheet.proofs.Passes.{NoPasses, first-fits, second-fits, rows-agree}

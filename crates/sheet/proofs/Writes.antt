@@ -25,7 +25,8 @@ use Rattle.formula.specs.Program.{truth}
 use Rattle.formula.proofs.Rows.{getD-after}
 use Rattle.question.specs.Accepted.{Every, RangeOk}
 use Rattle.sheet.specs.Rows.{valueAt, width, fields, bytesOfRow, fieldAt, firstRead, secondRead, inColumn, fixed, matches, fieldOk}
-use Rattle.sheet.specs.Sheet.{marked, lastVertex, Verdict, sayYes, sayNo, verdictByte, says, header, findingOf, yesEnd, checkYes, noEnd, noFormula, checkRows, checkNo, checkBody, versioned, checkSheet}
+use Rattle.formula.specs.Able.{noFormula}
+use Rattle.sheet.specs.Sheet.{marked, lastVertex, Verdict, sayYes, sayNo, verdictByte, says, header, findingOf, yesEnd, checkYes, noEnd, checkRows, checkNo, checkBody, versioned, checkSheet}
 use Rattle.sheet.specs.Tree.{Tree}
 use Rattle.sheet.specs.Trees.{allShut, bytesAll}
 use Rattle.sheet.proofs.Fields.{field-passes, FieldsOk, fields-pass, field-first, field-second}

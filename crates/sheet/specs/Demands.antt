@@ -13,7 +13,8 @@ use Rattle.formula.specs.Formulas.{Formula, formulas}
 use Rattle.question.specs.Reader.{good, bad, readOf}
 use Rattle.sheet.specs.Answers.{askedOf, verdictOf, checkOf, Written, wrote, unwritten, writeOf}
 use Rattle.sheet.specs.Rows.{firstRead, secondRead}
-use Rattle.sheet.specs.Sheet.{Verdict, sayYes, sayNo, says, sheetOf, noFormula}
+use Rattle.formula.specs.Able.{noFormula}
+use Rattle.sheet.specs.Sheet.{Verdict, sayYes, sayNo, says, sheetOf}
 
 -- ---- words of the statements
 

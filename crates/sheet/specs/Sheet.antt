@@ -1,6 +1,6 @@
 -- Whole sheets: what the writer writes and what the checker answers, for a question that was read (01, Bytes of a sheet, Numbers that say no).
 use Prim.Native.Nat.{ℕ, zero, suc, _+_, _*_}
-use mathlib.Core.Bool.{Bool, true, false, _&&_, cond}
+use mathlib.Core.Bool.{Bool, _&&_, cond}
 use mathlib.Core.List.{List, [], _∷_, _++_}
 use lib.ListN.{length, getD, drop}
 use lib.Dec.{eqb, leb, ltb}
@@ -8,6 +8,7 @@ use lib.IntN.{ℤ}
 use Rattle.meaning.specs.Limits.{mostColumns, mostVertices}
 use Rattle.meaning.specs.Contents.{Question}
 use Rattle.formula.specs.Program.{truth}
+use Rattle.formula.specs.Able.{noFormula}
 use Rattle.formula.specs.Formulas.{Formula, formulas}
 use Rattle.sheet.specs.Tree.{Outcome, passed, refused}
 use Rattle.sheet.specs.Trees.{checkTrees, Finding, allShut, firstOpen, writeTrees, bytesAll}
@@ -78,10 +79,6 @@ checkFields ok s (suc k) j next = let later = checkFields ok s k (suc j) next in
 -- "then a failing formula is 15 at offset 7, before 16"
 unfoldable pub noEnd : Question → Formula → List ℕ → Answer
 noEnd q F s = cond (truth (readValues q F s) (F .program)) (cond (leb (length s) (fieldAt (fields q F))) (says sayNo) (refusal 16 0)) (refusal 15 7)
-
--- where a list of formulas ends
-abbrev pub noFormula : Formula
-noFormula = record { ranges = []; pairs = false; program = [] }
 
 -- the fields from the first value on, for formula i
 unfoldable pub checkRows : Question → ℕ → Formula → List ℕ → Answer

@@ -24,12 +24,11 @@ use Rattle.sheet.specs.Facts.{start, taken}
 use Rattle.sheet.specs.Fast.{fast, nearStart}
 use Rattle.sheet.specs.Grow.{Growth, shut, openAt, growTree}
 use Rattle.sheet.specs.Sheet.{lastVertex}
-use Rattle.sheet.specs.Checking.{Spanned, SmallSpans}
 use Rattle.sheet.proofs.Fasts.{Same}
 use Rattle.sheet.proofs.FastAmong.{Ends, fast-table, fast-formula}
 use Rattle.sheet.proofs.Fit.{fit, present-below}
 use Rattle.sheet.proofs.Holds.{bounds-start}
-use Rattle.sheet.proofs.Lends.{lent-of}
+use Rattle.sheet.proofs.Lends.{flagged, lent-of, spanned-of}
 use Rattle.sheet.proofs.Standing.{nowhere, lent-place}
 use Rattle.sheet.proofs.NearStart.{start-far}
 use Rattle.writer.specs.Growing.{Grows, Fact, Ready, fastAt}
@@ -46,15 +45,7 @@ range-at [] P a k g e = let z : _≡_ {A = ℕ} 0 1 = cc in absurd (omega arith)
 range-at (r ∷ rs) P a zero g e = subst P e (a .0)
 range-at (r ∷ rs) P a (suc k) g e = range-at rs P (a .1) k g e
 
--- a vertex that is there has a range
-there : (o : Option Range) → isSome o ≡ true → (g : Range) × (o ≡ some g)
-there none e = let z : _≡_ {A = ℕ} 0 1 = cc in absurd (omega arith)
-there (some g) e = (g, refl)
-
 module _ (rs : Ranges) (count : ℕ) (flags : List Bool) (lo hi : List ℤ) (r : Ranging rs count flags lo hi) where
-  flagged : (k : ℕ) → getD flags (suc k) false ≡ true → (g : Range) × (getD rs k none ≡ some g)
-  flagged k e = there (getD rs k none) (sym (r .agree (suc k)) ∙ e)
-
   -- the lists, read back, are the ranges
   ranges-from : (v : ℕ) (ts : Ranges) → ((k : ℕ) → getD ts k none ≡ getD rs (v + k) none) → v + length ts ≤ length rs → rangesFrom flags lo hi (suc v) (length ts) ≡ ts
   unfolding rangesFrom
@@ -62,36 +53,27 @@ module _ (rs : Ranges) (count : ℕ) (flags : List Bool) (lo hi : List ℤ) (r :
   ranges-from v (t ∷ ts) f h = ap₂ _∷_ (one (getD flags (suc v) false) refl t (f 0 ∙ ap (λ m. getD rs m none) (omega arith))) (ranges-from (suc v) ts (λ k. f (suc k) ∙ ap (λ m. getD rs m none) (omega arith)) (omega arith))
     where
       one : (b : Bool) → getD flags (suc v) false ≡ b → (t : Option Range) → t ≡ getD rs v none → rangeAt flags lo hi (suc v) ≡ t
-      one true e none d = let p = flagged v e in let z : _≡_ {A = ℕ} 0 1 = cc in absurd (omega arith)
-      one true e (some g) d = rw e (ap some (ap₂ (λ x y. record { lo = x; hi = y }) (r .lows v g (sym d)) (r .highs v g (sym d))))
+      one true e none d = let p = flagged rs flags lo hi (r .spans) v e in let z : _≡_ {A = ℕ} 0 1 = cc in absurd (omega arith)
+      one true e (some g) d = rw e (ap some (ap₂ (λ x y. record { lo = x; hi = y }) (r .spans .lows v g (sym d)) (r .spans .highs v g (sym d))))
       one false e none d = rw e
-      one false e (some g) d = let p : isSome (getD rs v none) ≡ false = sym (r .agree (suc v)) ∙ e in let z : _≡_ {A = ℕ} 0 1 = cc in absurd (omega arith)
+      one false e (some g) d = let p : isSome (getD rs v none) ≡ false = sym (r .spans .shows .agree (suc v)) ∙ e in let z : _≡_ {A = ℕ} 0 1 = cc in absurd (omega arith)
 
   pub ranges-are : rangesFrom flags lo hi 1 (count - 1) ≡ rs
   ranges-are = let d : count - 1 ≡ length rs = omega (arith, r .count-is) in ap (rangesFrom flags lo hi 1) d ∙ ranges-from 0 rs (λ k. ap (λ m. getD rs m none) (omega arith)) (omega arith)
 
   module _ (small : Every SmallRange rs) where
-    pub small-spans : SmallSpans flags lo hi
-    small-spans = record {
-      low = λ k e. let p = flagged k e in let b = range-at rs SmallRange small k (p .0) (p .1) in rw (r .lows k (p .0) (p .1)) (record { high = omega (arith, b .2); low = omega (arith, b .3) });
-      high = λ k e. let p = flagged k e in let b = range-at rs SmallRange small k (p .0) (p .1) in rw (r .highs k (p .0) (p .1)) (record { high = omega (arith, b .0); low = omega (arith, b .1) });
-    }
-
-    pub spanned : length rs < mostVertices → Spanned rs flags lo hi
-    spanned h = record { few = h; shows = record { agree = r .agree }; lows = r .lows; highs = r .highs }
-
-    pub ranged : length rs < mostVertices → Every Nonempty rs → Ranged count flags lo hi
-    ranged h some-value = record {
+    pub ranged : Every Nonempty rs → Ranged count flags lo hi
+    ranged some-value = record {
       some-vertex = omega (arith, r .count-is);
-      few = omega (arith, r .count-is);
-      nonempty = λ v z l e. at v z e (λ x. getD lo x (pos 0) ≤ℤ getD hi x (pos 0)) (λ k g d. rw (r .lows k g d, r .highs k g d) (range-at rs Nonempty some-value k g d));
-      small-lo = λ v z l e. at v z e (λ x. (up (getD lo x (pos 0)) ≤ billion) × (dn (getD lo x (pos 0)) ≤ billion)) (λ k g d. let b = range-at rs SmallRange small k g d in rw (r .lows k g d) (b .2, b .3));
-      small-hi = λ v z l e. at v z e (λ x. (up (getD hi x (pos 0)) ≤ billion) × (dn (getD hi x (pos 0)) ≤ billion)) (λ k g d. let b = range-at rs SmallRange small k g d in rw (r .highs k g d) (b .0, b .1));
+      few = omega (arith, r .count-is, r .spans .few);
+      nonempty = λ v z l e. at v z e (λ x. getD lo x (pos 0) ≤ℤ getD hi x (pos 0)) (λ k g d. rw (r .spans .lows k g d, r .spans .highs k g d) (range-at rs Nonempty some-value k g d));
+      small-lo = λ v z l e. at v z e (λ x. (up (getD lo x (pos 0)) ≤ billion) × (dn (getD lo x (pos 0)) ≤ billion)) (λ k g d. let b = range-at rs SmallRange small k g d in rw (r .spans .lows k g d) (b .2, b .3));
+      small-hi = λ v z l e. at v z e (λ x. (up (getD hi x (pos 0)) ≤ billion) × (dn (getD hi x (pos 0)) ≤ billion)) (λ k g d. let b = range-at rs SmallRange small k g d in rw (r .spans .highs k g d) (b .0, b .1));
     }
       where
         at : (v : ℕ) → 0 < v → getD flags v false ≡ true → (P : ℕ → Type 0) → ((k : ℕ) (g : Range) → getD rs k none ≡ some g → P (suc k)) → P v
         at zero z e P f = absurd (omega arith)
-        at (suc k) z e P f = let p = flagged k e in f k (p .0) (p .1)
+        at (suc k) z e P f = let p = flagged rs flags lo hi (r .spans) k e in f k (p .0) (p .1)
 
 -- ---- places by position
 
@@ -177,5 +159,5 @@ module _ (f : types.Formula) (F : Formula) (c : Compiled f F) where
   pub coded-of : Coded F (f .program .kinds) (f .program .count) (f .program .left) (f .program .right) (f .program .most) (f .program .places)
   coded-of = let m = c .program in record { lent = lent-of f F c; n-is = m .count; few-is = m .places }
 
-  pub ranging-of : Ranging (F .ranges) (f .vertices .count) (f .vertices .present) (f .vertices .lo) (f .vertices .hi)
-  ranging-of = let v = c .vertices in record { count-is = v .count; agree = v .agree; lows = v .lo; highs = v .hi }
+  pub ranging-of : length (F .ranges) < mostVertices → Ranging (F .ranges) (f .vertices .count) (f .vertices .present) (f .vertices .lo) (f .vertices .hi)
+  ranging-of h = record { count-is = c .vertices .count; spans = spanned-of f F c h }

@@ -1,11 +1,11 @@
 use mathlib.Core.Path.{_∙_}
-use Rattle.sheet.proofs.Lends.{lent-of, shows-of, count-few, places-few, places-of, spanned-of, small-of, same-few}
+use Rattle.sheet.proofs.Lends.{lent-of, shows-of, count-few, places-few, places-of, spanned-of, small-spans, same-few}
 use Rattle.sheet.proofs.Standing.{left-all}
 use Rattle.sheet.proofs.compiled.formula_tree.Statement.{statement}
 use Rattle.sheet.proofs.compiled.formula_tree.Tie as tie
 
 start-requires : tie.Need-start-requires
-start-requires c κs = let s = c .before .before .before .before .before .before .before .before .before .before in let i = s .pre in small-of (s .args .f) (i .formula) (i .is) (i .proper)
+start-requires c κs = let s = c .before .before .before .before .before .before .before .before .before .before in let i = s .pre in small-spans _ _ _ _ (spanned-of (s .args .f) (i .formula) (i .is) (i .proper .vertices)) (i .proper .ranges-small)
 
 lent-tree-requires : tie.Need-lent-tree-requires
 lent-tree-requires c κs =

@@ -4,7 +4,8 @@ use mathlib.Core.Path.{sym}
 use denote.Ref.{now}
 use lib.ListN.{length, take}
 use lib.Seq.{length-take-le}
-use Rattle.writer.proofs.Plants.{small-spans, ranged, spanned, lengths, root-ready, root-grows, near-of}
+use Rattle.sheet.proofs.Lends.{small-spans}
+use Rattle.writer.proofs.Plants.{ranged, lengths, root-ready, root-grows, near-of}
 use borrow.Author.Needs.{needs}
 use Rattle.writer.proofs.planting.plant.Statement.{statement}
 use Rattle.writer.proofs.planting.plant.Tie as tie
@@ -12,12 +13,12 @@ use Rattle.writer.proofs.planting.plant.Tie as tie
 start-requires : tie.Need-start-requires
 start-requires c κs =
     let q = c .before .pre in
-    small-spans _ _ _ _ _ (q .ranging) (q .proper .ranges-small)
+    small-spans _ _ _ _ (q .ranging .spans) (q .proper .ranges-small)
 
 near-start-requires : tie.Need-near-start-requires
 near-start-requires c κs =
     let q = c .before .before .pre in
-    ranged _ _ _ _ _ (q .ranging) (q .proper .ranges-small) (q .proper .vertices) (q .proper .ranges-some)
+    ranged _ _ _ _ _ (q .ranging) (q .proper .ranges-small) (q .proper .ranges-some)
 
 array-share-prefix-kinds : tie.Need-array-share-prefix-kinds
 array-share-prefix-kinds c = search needs
@@ -62,7 +63,7 @@ grow-requires c κs =
     let l = lengths _ _ _ _ _ _ _ (q .coded) in (
       omega (arith, length-take-le (a .n) (a .t3) (omega (arith, s .good .1 .1 .0 .1 .0 .1, q .coded .n-is, q .proper .short)), q .coded .n-is, q .proper .short),
       omega (arith, l .2),
-      root-ready _ _ _ _ _ _ _ (q .coded) (q .proper) (a .count - 1) (omega (arith, q .ranging .count-is)) _ _ (c .before .before .before .before .before .before .start .ensures .meaning _ (spanned _ _ _ _ _ (q .ranging) (q .proper .ranges-small) (q .proper .vertices))) (near-of _ _ _ _ _ _ (q .ranging) (c .before .before .before .before .before .near-start .ensures)),
+      root-ready _ _ _ _ _ _ _ (q .coded) (q .proper) (a .count - 1) (omega (arith, q .ranging .count-is)) _ _ (c .before .before .before .before .before .before .start .ensures .meaning _ (q .ranging .spans)) (near-of _ _ _ _ _ _ (q .ranging) (c .before .before .before .before .before .near-start .ensures)),
     )
 
 same-length : tie.Need-same-length
@@ -72,7 +73,7 @@ returns : tie.Need-returns
 returns c =
     let s = c .before .before .before .before .before .before .before .before .before .before .before in
     let a = s .args in
-    λ F coded ranging proper. root-grows F _ _ _ _ _ _ coded proper (a .count - 1) (length (take (a .few) (a .t7)) - a .few) (omega (arith, ranging .count-is)) (omega (arith, lengths F _ _ _ _ _ _ coded .2)) _ _ _ (c .before .before .before .before .before .before .before .before .before .start .ensures .meaning _ (spanned _ _ _ _ _ ranging (proper .ranges-small) (proper .vertices))) (near-of _ _ _ _ _ _ ranging (c .before .before .before .before .before .before .before .before .near-start .ensures)) (now (a .room)) (a .spot) _ _ (c .before .before .grow .ensures F (coded .lent))
+    λ F coded ranging proper. root-grows F _ _ _ _ _ _ coded proper (a .count - 1) (length (take (a .few) (a .t7)) - a .few) (omega (arith, ranging .count-is)) (omega (arith, lengths F _ _ _ _ _ _ coded .2)) _ _ _ (c .before .before .before .before .before .before .before .before .before .start .ensures .meaning _ (ranging .spans)) (near-of _ _ _ _ _ _ ranging (c .before .before .before .before .before .before .before .before .near-start .ensures)) (now (a .room)) (a .spot) _ _ (c .before .before .grow .ensures F (coded .lent))
 
 pub plant-spec : {M : Type 1} → statement M
 plant-spec =
