@@ -1,7 +1,7 @@
 # The commands of the project. `make test` is the gate.
 SHELL := /bin/bash
 .SHELLFLAGS := -euo pipefail -c
-.PHONY: test ask twelve refusals lib soak bench fmt
+.PHONY: test ask sheets twelve refusals lib soak bench fmt
 
 cargo = cargo $(1) --quiet --offline --release --manifest-path rust/Cargo.toml
 
@@ -14,6 +14,10 @@ test:
 # The program: target/bin/ask < QUESTION
 ask:
 	rt check ask
+
+# Sheets as files: target/bin/write_sheet and target/bin/check_sheet, each QUESTION-FILE irrelevant|computable SHEET-FILE.
+sheets:
+	rt check write_sheet check_sheet
 
 # The scope document's twelve cases, and the shortcuts that it warns of, with both answers and the rows that show a no.
 twelve:

@@ -43,8 +43,17 @@ pub fn refused(number: u8, place: usize) {
     line_end();
 }
 
+// The line `refused 1 69: ` with what the number means.
+pub fn explained(number: u8, place: usize) {
+    text(b"refused ");
+    refusal(number, place);
+    text(b": ");
+    reason(number);
+    line_end();
+}
+
 // What a refusal's number means.
-pub fn reason(number: u8) {
+fn reason(number: u8) {
     match number {
         1 => text(b"a field runs past the end"),
         2 => text(b"wrong mark"),
