@@ -13,11 +13,18 @@ use std::process::{Command, Stdio};
 /// How many seconds are measured at least; shorter runs are repeated.
 const ENOUGH: f64 = 0.5;
 
+/// Room for the longest sheet of a load: 20,000 nodes of 19 bytes at most; but a room is cleared to its end, so no more than most need.
+const ROOM: usize = 400_000;
+
 /// Seconds for the whole load.
 pub struct Figures {
-    /// The library.
-    pub library: f64,
-    /// The oracle.
+    /// The library's verdicts.
+    pub verdicts: f64,
+    /// The library's sheets, written.
+    pub written: f64,
+    /// The same, checked.
+    pub checked: f64,
+    /// The oracle's verdicts.
     pub oracle: f64,
     /// z3, if it is installed.
     pub z3: Option<f64>,
@@ -25,11 +32,22 @@ pub struct Figures {
 
 /// Measures a load; stops if an answer is wrong.
 pub fn measure(load: &Load) -> Figures {
+    let mut room = vec![0; ROOM];
+    let sheets: Vec<Vec<u8>> = load.questions.iter().map(|asked| sheet(asked, &mut room)).collect();
     Figures {
-        library: mean(|| Some(ours(load, library::verdict))).expect("a time"),
-        oracle: mean(|| Some(ours(load, oracle::verdict))).expect("a time"),
+        verdicts: mean(|| Some(verdicts(load, library::verdict))).expect("a time"),
+        written: mean(|| Some(written(load))).expect("a time"),
+        checked: mean(|| Some(checked(load, &sheets))).expect("a time"),
+        oracle: mean(|| Some(verdicts(load, oracle::verdict))).expect("a time"),
         z3: z3(load),
     }
+}
+
+/// The sheet of a question.
+fn sheet(asked: &Asked, room: &mut [u8]) -> Vec<u8> {
+    let (_, length) =
+        library::write(asked.asked, &asked.bytes, room).expect("room for every sheet of a load");
+    room[..length].to_vec()
 }
 
 /// The mean of enough runs, each of which tells its seconds.
@@ -42,11 +60,31 @@ fn mean(run: impl Fn() -> Option<f64>) -> Option<f64> {
     Some(total / f64::from(runs))
 }
 
-/// Runs the load often enough for the kernel's clock, which may stand still for some milliseconds.
-fn ours(load: &Load, verdict: impl Fn(u8, &[u8]) -> Result<Verdict, Refusal>) -> f64 {
+/// A run of the verdicts, often enough for the kernel's clock, which may stand still for some milliseconds.
+fn verdicts(load: &Load, verdict: impl Fn(u8, &[u8]) -> Result<Verdict, Refusal>) -> f64 {
     clock::each(0.05, || {
         for asked in &load.questions {
             assert_eq!(verdict(asked.asked, &asked.bytes), Ok(asked.verdict));
+        }
+    })
+}
+
+/// The same of the sheets written.
+fn written(load: &Load) -> f64 {
+    let mut room = vec![0; ROOM];
+    clock::each(0.05, || {
+        for asked in &load.questions {
+            let done = library::write(asked.asked, &asked.bytes, &mut room);
+            assert_eq!(done.map(|(verdict, _)| verdict), Ok(asked.verdict));
+        }
+    })
+}
+
+/// And of the sheets checked.
+fn checked(load: &Load, sheets: &[Vec<u8>]) -> f64 {
+    clock::each(0.05, || {
+        for (asked, sheet) in load.questions.iter().zip(sheets) {
+            assert_eq!(library::check(asked.asked, &asked.bytes, sheet), Ok(asked.verdict));
         }
     })
 }

@@ -1,15 +1,14 @@
 //! Measures the library beside the oracle and z3, on the same questions in one run.
 //!
-//! Every time is of one core and of verdicts alone. The library and the oracle read the question's
-//! bytes; z3 reads the same formulas as SMT-LIB, those up to the first open one, in one process whose
-//! start-up is taken off.
+//! Every time is of one core. The library and the oracle read the question's bytes; z3 reads the same
+//! formulas as SMT-LIB, those up to the first open one, in one process whose start-up is taken off.
 
 use diff::load::{loads, Load};
 use diff::measure::{measure, Figures};
 
 fn main() {
-    println!("| load | questions | nodes | library, questions/s | library, nodes/s | oracle, questions/s | z3, questions/s | library : z3 |");
-    println!("|---|---|---|---|---|---|---|---|");
+    println!("| load | questions | nodes | verdicts/s | z3, verdicts/s | library : z3 | oracle, verdicts/s | nodes written/s | nodes checked/s |");
+    println!("|---|---|---|---|---|---|---|---|---|");
     for load in loads() {
         let figures = measure(&load);
         println!("{}", row(&load, &figures));
@@ -21,14 +20,15 @@ fn row(load: &Load, figures: &Figures) -> String {
     let rate = |seconds: f64| questions as f64 / seconds;
     let nodes: u64 = load.questions.iter().map(|asked| asked.nodes).sum();
     let (z3, ratio) = match figures.z3 {
-        Some(seconds) => (format!("{:.0}", rate(seconds)), format!("{:.1}", seconds / figures.library)),
+        Some(seconds) => (format!("{:.0}", rate(seconds)), format!("{:.1}", seconds / figures.verdicts)),
         None => ("-".to_string(), "-".to_string()),
     };
     format!(
-        "| {} | {questions} | {nodes} | {:.0} | {:.0} | {:.0} | {z3} | {ratio} |",
+        "| {} | {questions} | {nodes} | {:.0} | {z3} | {ratio} | {:.0} | {:.0} | {:.0} |",
         load.name,
-        rate(figures.library),
-        nodes as f64 / figures.library,
+        rate(figures.verdicts),
         rate(figures.oracle),
+        nodes as f64 / figures.written,
+        nodes as f64 / figures.checked,
     )
 }
