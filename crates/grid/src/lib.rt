@@ -8,7 +8,7 @@ ghost use lib.Signed.{_<ℤ_, ltZ};
 ghost use Rattle.grid.specs.Walk.{Below, closed};
 ghost use Rattle.ints.proofs.Bridge.{minZ};
 ghost use Rattle.meaning.specs.Limits.{mostVertices};
-ghost use Rattle.grid.specs.Grid.{blank, row, weight, tighten, filled, tabled, wide, farN, Bounded, RowWithin, AllWithin};
+ghost use Rattle.grid.specs.Grid.{blank, row, weight, tighten, filled, tabled, wide, farN, Bounded, Sized, RowWithin, AllWithin};
 ghost use Rattle.grid.specs.Search.{least, first, best, greedy, search};
 ghost use Rattle.grid.specs.Found.{cycleOf, Opens, Ways};
 ghost use Rattle.grid.specs.Near.{relax, nearBlank};
@@ -121,9 +121,9 @@ pub fn closing(g: [[i64; VERTICES]; VERTICES], vertices: &[u8]) -> i64
 }
 
 // The weights of the edges into s, from each vertex below n.
-fn column(g: [[i64; VERTICES]; VERTICES], n: usize, s: usize) -> [i64; VERTICES]
-    requires { ⌜ (n ≤ mostVertices) × (s < n) ⌝ }
-    ensures { λ r. ⌜ r ≡ filled (λ v. weight g v s) n (row g s) ⌝ }
+fn column(g: &[[i64; VERTICES]; VERTICES], n: usize, s: usize) -> [i64; VERTICES]
+    requires { ⌜ (n ≤ mostVertices) × (s < n) × Sized mostVertices (now g) ⌝ }
+    ensures { λ r. ⌜ r ≡ filled (λ v. weight (now (g .entry)) v s) n (row (now (g .entry)) s) ⌝ }
 {
     let mut h = g[s];
     for v in 0..n {
@@ -139,17 +139,17 @@ fn single(g: [[i64; VERTICES]; VERTICES], n: usize) -> [[i64; VERTICES]; VERTICE
 {
     let mut h = g;
     for s in 0..n {
-        h[s] = column(g, n, s);
+        h[s] = column(&g, n, s);
     }
     h
 }
 
 // The least sum of an edge to a vertex below n and the way on from there.
-fn least_sum(edges: [i64; VERTICES], on: [i64; VERTICES], n: usize) -> i64
-    requires { ⌜ (0 < n) × (n ≤ mostVertices) ⌝ }
-    requires { ⌜ RowWithin wide n edges ⌝ }
-    requires { ⌜ RowWithin wide n on ⌝ }
-    ensures { λ r. ⌜ r ≡ least (λ u. getD edges u (pos 0) +ℤ getD on u (pos 0)) (n - 1) ⌝ }
+fn least_sum(edges: &[i64], on: &[i64], n: usize) -> i64
+    requires { ⌜ (0 < n) × (n ≤ length (now edges)) × (n ≤ length (now on)) ⌝ }
+    requires { ⌜ RowWithin wide n (now edges) ⌝ }
+    requires { ⌜ RowWithin wide n (now on) ⌝ }
+    ensures { λ r. ⌜ r ≡ least (λ u. getD (now (edges .entry)) u (pos 0) +ℤ getD (now (on .entry)) u (pos 0)) (n - 1) ⌝ }
 {
     let mut sum = edges[0] + on[0];
     for u in 1..n {
@@ -160,16 +160,15 @@ fn least_sum(edges: [i64; VERTICES], on: [i64; VERTICES], n: usize) -> i64
 }
 
 // One edge more: from each vertex the least sum of an edge and the way on.
-fn longer(g: [[i64; VERTICES]; VERTICES], on: [i64; VERTICES], n: usize) -> [i64; VERTICES]
+fn longer(g: &[[i64; VERTICES]; VERTICES], on: [i64; VERTICES], n: usize) -> [i64; VERTICES]
     requires { ⌜ (0 < n) × (n ≤ mostVertices) ⌝ }
-    requires { ⌜ AllWithin farN n g ⌝ }
+    requires { ⌜ Sized mostVertices (now g) × AllWithin farN n (now g) ⌝ }
     requires { ⌜ RowWithin wide n on ⌝ }
-    ensures { λ r. ⌜ r ≡ filled (λ v. least (λ u. weight g v u +ℤ getD on u (pos 0)) (n - 1)) n on ⌝ }
+    ensures { λ r. ⌜ r ≡ filled (λ v. least (λ u. weight (now (g .entry)) v u +ℤ getD on u (pos 0)) (n - 1)) n on ⌝ }
 {
     let mut h = on;
     for v in 0..n {
-        let edges = g[v];
-        let sum = least_sum(edges, on, n);
+        let sum = least_sum(&g[v], &on, n);
         h[v] = sum;
     }
     h
@@ -177,14 +176,14 @@ fn longer(g: [[i64; VERTICES]; VERTICES], on: [i64; VERTICES], n: usize) -> [i64
 
 // One edge more for every start.
 fn further(
-    g: [[i64; VERTICES]; VERTICES],
+    g: &[[i64; VERTICES]; VERTICES],
     sums: [[i64; VERTICES]; VERTICES],
     n: usize,
 ) -> [[i64; VERTICES]; VERTICES]
     requires { ⌜ (0 < n) × (n ≤ mostVertices) ⌝ }
-    requires { ⌜ AllWithin farN n g ⌝ }
+    requires { ⌜ Sized mostVertices (now g) × AllWithin farN n (now g) ⌝ }
     requires { ⌜ AllWithin wide n sums ⌝ }
-    ensures { λ r. ⌜ r ≡ tabled (λ s v. least (λ u. weight g v u +ℤ weight sums s u) (n - 1)) n sums ⌝ }
+    ensures { λ r. ⌜ r ≡ tabled (λ s v. least (λ u. weight (now (g .entry)) v u +ℤ weight sums s u) (n - 1)) n sums ⌝ }
 {
     let mut h = sums;
     for s in 0..n {
@@ -234,7 +233,7 @@ fn shortest(g: [[i64; VERTICES]; VERTICES], n: usize) -> Opening
                 break 'search;
             }
         }
-        sums = further(g, sums, n);
+        sums = further(&g, sums, n);
     }
     Opening { count, start }
 }
@@ -251,11 +250,11 @@ fn ways(
     ensures { λ r. ⌜ Ways g n s count r ⌝ }
 {
     let mut h = g;
-    let first = column(g, n, s);
+    let first = column(&g, n, s);
     h[0] = first;
     for j in 1..count {
         let on = h[j - 1];
-        let row = longer(g, on, n);
+        let row = longer(&g, on, n);
         h[j] = row;
     }
     h

@@ -2,26 +2,25 @@ use mathlib.Core.Path.{_≡_, refl, _∙_}
 use Prim.Native.Nat.{_-_, _≤_}
 use native.Mathlib.Omega.{arith}
 use borrow.Author.Needs.{needs}
+use denote.Ref.{now}
 use mir.Facts.{toZ-ofZ}
 use Rattle.meaning.specs.Limits.{mostVertices}
 use Rattle.grid.specs.Grid.{row, weight, filled}
-use Rattle.grid.proofs.Rows.{filled-more, read, sized}
+use Rattle.grid.proofs.Rows.{filled-more, read}
 use Rattle.grid.proofs.column.Statement.{statement}
 use Rattle.grid.proofs.column.Tie as tie
-use Rattle.grid.proofs.column.Reads as reads
-use Rattle.grid.proofs.column.Lts as lts
 
 abbrev Inv-loop : tie.InvT-loop
-Inv-loop n s g h₀ v₀ h v = (v ≤ n) × (h ≡ filled (λ v. weight g v s) v (row g s))
+Inv-loop g n s h₀ v₀ h v = (v ≤ n) × (h ≡ filled (λ v. weight g v s) v (row g s))
 
 abbrev μ-loop : tie.MeasureT-loop
-μ-loop n s g h₀ v₀ h v = n - v
+μ-loop g n s h₀ v₀ h v = n - v
 
 mul-h : tie.Need-mul-h Inv-loop μ-loop
 mul-h c = search needs
 
-array-copy-out-h : tie.Need-array-copy-out-h Inv-loop μ-loop
-array-copy-out-h c = search needs
+element-copy-out-h : tie.Need-element-copy-out-h Inv-loop μ-loop
+element-copy-out-h c = search needs
 
 loop-holds : tie.Need-loop-holds Inv-loop μ-loop
 unfolding filled
@@ -56,8 +55,8 @@ loop-again c =
     let l = c .before .before .loop in
     let s = c .before .before .before .before in (
       search needs,
-      filled-more _ (l .v) (row (s .args .t1) (s .args .s)) (l .h) _ (l .inv .1)
-          (toZ-ofZ (record { sfits = c .h2 .given }) ∙ read mostVertices (s .args .t1) (l .v) (s .args .s) (sized mostVertices (s .args .t1) _ (s .good .0)) (omega (arith, s .pre, c .before .loop-test .taken)) (omega (arith, s .pre))),
+      filled-more _ (l .v) (row (now (s .args .g)) (s .args .s)) (l .h) _ (l .inv .1)
+          (toZ-ofZ (record { sfits = c .h2 .given }) ∙ read mostVertices (now (s .args .g)) (l .v) (s .args .s) (s .pre .2) (omega (arith, s .pre .0, s .pre .1, c .before .loop-test .taken)) (omega (arith, s .pre .0, s .pre .1))),
     )
 
 returns : tie.Need-returns Inv-loop μ-loop
@@ -72,7 +71,7 @@ column-spec =
     Inv-loop
     μ-loop
     mul-h
-    array-copy-out-h
+    element-copy-out-h
     loop-holds
     mul-h-2
     mul-h-3

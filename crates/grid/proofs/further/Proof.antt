@@ -2,6 +2,7 @@ use mathlib.Core.Path.{_≡_, refl, _∙_}
 use Prim.Native.Nat.{_-_, _≤_, _<_}
 use native.Mathlib.Omega.{arith}
 use borrow.Author.Needs.{needs}
+use denote.Ref.{now}
 use lib.IntN.{ℤ, _+ℤ_}
 use Rattle.meaning.specs.Limits.{mostVertices}
 use Rattle.grid.specs.Grid.{wide, row, weight, filled, tabled}
@@ -10,9 +11,6 @@ use Rattle.grid.proofs.Rows.{filled-more, filled-same, sized}
 use Rattle.grid.proofs.Bests.{row-within, least-onward}
 use Rattle.grid.proofs.further.Statement.{statement}
 use Rattle.grid.proofs.further.Tie as tie
-use Rattle.grid.proofs.further.Reads as reads
-use Rattle.grid.proofs.further.Lts as lts
-use Rattle.grid.proofs.longer.Reads as longer-reads
 
 abbrev Inv-loop : tie.InvT-loop
 Inv-loop g n sums h₀ s₀ h s = (s ≤ n) × (h ≡ filled (λ s. filled (λ v. least (λ u. weight g v u +ℤ weight sums s u) (n - 1)) n (row sums s)) s sums)
@@ -55,7 +53,7 @@ loop-again c =
     let s : l .s < z .args .n = c .before .before .loop-test .taken in (
       omega arith,
       filled-more _ (l .s) (z .args .t2) (l .h) _ (l .inv .1)
-          (c .longer .ensures ∙ filled-same _ _ (z .args .n) (row (z .args .t2) (l .s)) (λ v h. least-onward (z .args .n) (z .args .t2) (weight (z .args .g)) (sized mostVertices (z .args .t2) _ (z .good .1 .0)) (z .pre .0) (l .s) v s)),
+          (c .longer .ensures ∙ filled-same _ _ (z .args .n) (row (z .args .t2) (l .s)) (λ v h. least-onward (z .args .n) (z .args .t2) (weight (now (z .args .g))) (sized mostVertices (z .args .t2) _ (z .good .1 .0)) (z .pre .0) (l .s) v s)),
     )
 
 returns : tie.Need-returns Inv-loop μ-loop

@@ -15,22 +15,18 @@ use Rattle.grid.proofs.Kept.{Sums, sums-first, sums-next, sums-wide}
 use Rattle.grid.proofs.Firsts.{Clear, clear-none, clear-more, counts-more, opens-none, opens-some}
 use Rattle.grid.proofs.shortest.Statement.{statement}
 use Rattle.grid.proofs.shortest.Tie as tie
-use Rattle.grid.proofs.shortest.Reads as reads
-use Rattle.grid.proofs.shortest.Lts as lts
-use Rattle.grid.proofs.further.Reads as further-reads
-use Rattle.grid.proofs.single.Reads as single-reads
 
 abbrev Inv-loop : tie.InvT-loop
-Inv-loop g n sums count₀ start₀ k s₀ count start s = (s ≤ n) × (count ≡ 0) × Clear (weight g) (n - 1) k s
+Inv-loop n g sums count₀ start₀ k s₀ count start s = (s ≤ n) × (count ≡ 0) × Clear (weight g) (n - 1) k s
 
 abbrev μ-loop : tie.MeasureT-loop
-μ-loop g n sums count₀ start₀ k s₀ count start s = n - s
+μ-loop n g sums count₀ start₀ k s₀ count start s = n - s
 
 abbrev Inv-search : tie.InvT-search
-Inv-search g n sums₀ count₀ start₀ k₀ sums count start k = (k ≤ n) × (count ≡ 0) × Sums g n k sums × ((j : ℕ) → j < k → Clear (weight g) (n - 1) j n)
+Inv-search n g sums₀ count₀ start₀ k₀ sums count start k = (k ≤ n) × (count ≡ 0) × Sums g n k sums × ((j : ℕ) → j < k → Clear (weight g) (n - 1) j n)
 
 abbrev μ-search : tie.MeasureT-search
-μ-search g n sums₀ count₀ start₀ k₀ sums count start k = n - k
+μ-search n g sums₀ count₀ start₀ k₀ sums count start k = n - k
 
 single-requires : tie.Need-single-requires Inv-loop μ-loop Inv-search μ-search
 single-requires c κs = c .pre .0 .1
@@ -38,7 +34,7 @@ single-requires c κs = c .pre .0 .1
 search-holds : tie.Need-search-holds Inv-loop μ-loop Inv-search μ-search
 search-holds c =
     let z = c .before in
-    (search needs, refl, sums-first (z .args .g) (z .args .n) (z .pre .0) (z .pre .1) (sized mostVertices (z .args .g) _ (z .good .0)) (c .single .result) (c .single .ensures), λ j h. absurd (omega arith))
+    (search needs, refl, sums-first (z .args .t1) (z .args .n) (z .pre .0) (z .pre .1) (sized mostVertices (z .args .t1) _ (z .good .0)) (c .single .result) (c .single .ensures), λ j h. absurd (omega arith))
 
 loop-holds : tie.Need-loop-holds Inv-loop μ-loop Inv-search μ-search
 loop-holds c = (search needs, c .before .search .inv .1, clear-none _ _ _)
@@ -63,7 +59,7 @@ closing : (c : tie.After-if12 Inv-loop μ-loop Inv-search μ-search) →
     let l = c .before .before .loop in
     let o = c .before .before .before .before in
     let a = o .before .before .args in
-    getD (row (o .search .sums) (l .s)) (l .s) (pos 0) ≡ best (weight (a .g)) (a .n - 1) (o .search .k) (l .s) (l .s)
+    getD (row (o .search .sums) (l .s)) (l .s) (pos 0) ≡ best (weight (a .t1)) (a .n - 1) (o .search .k) (l .s) (l .s)
 closing c =
     let l = c .before .before .loop in
     let o = c .before .before .before .before in
@@ -88,9 +84,9 @@ loop-again c =
 
 further-requires : tie.Need-further-requires Inv-loop μ-loop Inv-search μ-search
 further-requires c κs =
-    let o = c .before .before .before in
+    let o = c .before .before .before .before in
     let z = o .before .before in
-    (z .pre .0, (z .pre .1, sums-wide (z .args .g) (z .args .n) (z .pre .0) (z .pre .1) (o .search .k) (o .search .sums) (o .search .inv .2) (omega (arith, z .pre .0))))
+    (z .pre .0, ((sized mostVertices (z .args .t1) _ (z .good .0), z .pre .1), sums-wide (z .args .t1) (z .args .n) (z .pre .0) (z .pre .1) (o .search .k) (o .search .sums) (o .search .inv .2) (omega (arith, z .pre .0))))
 
 add-k : tie.Need-add-k Inv-loop μ-loop Inv-search μ-search
 add-k c = search needs
@@ -100,13 +96,13 @@ search-less c = search needs
 
 search-again : tie.Need-search-again Inv-loop μ-loop Inv-search μ-search
 search-again c =
-    let a = c .before in
+    let a = c .before .before in
     let o = a .before .before .before in
     let z = o .before .before in
     let all : a .before .loop .s ≡ z .args .n = omega arith in (
       omega (arith, a .before .before .search-test .taken),
       a .before .loop .inv .1,
-      sums-next (z .args .g) (z .args .n) (z .pre .0) (z .pre .1) (o .search .k) (o .search .sums) (c .further .result) (o .search .inv .2) (c .further .ensures),
+      sums-next (z .args .t1) (z .args .n) (z .pre .0) (z .pre .1) (o .search .k) (o .search .sums) (c .further .result) (o .search .inv .2) (c .further .ensures),
       counts-more _ _ (z .args .n) (o .search .k) (o .search .inv .3) (rw all at (a .before .loop .inv .2)),
     )
 
@@ -115,7 +111,7 @@ returns c =
     let z = c .before .before .before in
     let o = c .before .search in
     let m : suc (z .args .n - 1) ≡ z .args .n = omega (arith, z .pre .0) in
-    rw (o .inv .1) (opens-none (weight (z .args .g)) (z .args .n - 1) (z .args .n) m (λ j h. o .inv .3 j (omega arith)) (o .start))
+    rw (o .inv .1) (opens-none (weight (z .args .t1)) (z .args .n - 1) (z .args .n) m (λ j h. o .inv .3 j (omega arith)) (o .start))
 
 returns-2 : tie.Need-returns-2 Inv-loop μ-loop Inv-search μ-search
 returns-2 c =
@@ -123,7 +119,7 @@ returns-2 c =
     let o = l .before .before in
     let z = o .before .before in
     let m : suc (z .args .n - 1) ≡ z .args .n = omega (arith, z .pre .0) in
-    opens-some (weight (z .args .g)) (z .args .n - 1) (z .args .n) m (o .search .k) (l .loop .s) (l .before .search-test .taken) (c .before .before .loop-test .taken) (o .search .inv .3) (l .loop .inv .2) (rw (closing (c .before)) at (simp (toZ-ofZ, sum-fits (c .before)) at (c .if1 .taken)))
+    opens-some (weight (z .args .t1)) (z .args .n - 1) (z .args .n) m (o .search .k) (l .loop .s) (l .before .search-test .taken) (c .before .before .loop-test .taken) (o .search .inv .3) (l .loop .inv .2) (rw (closing (c .before)) at (simp (toZ-ofZ, sum-fits (c .before)) at (c .if1 .taken)))
 
 pub shortest-spec : {M : Type 1} → statement M
 shortest-spec =
