@@ -1,7 +1,7 @@
 # The commands of the project. `make test` is the gate.
 SHELL := /bin/bash
 .SHELLFLAGS := -euo pipefail -c
-.PHONY: test ask sheets twelve refusals lib soak bench fmt
+.PHONY: test programs run twelve refusals lib soak bench fmt
 
 cargo = cargo $(1) --quiet --offline --release --manifest-path rust/Cargo.toml
 
@@ -11,13 +11,13 @@ test:
 	rt fmt --check
 	log=$$(mktemp); trap 'rm -f "$$log"' EXIT; rt ci | tee "$$log"; $(MAKE) --no-print-directory lib; $(call cargo,test); tail -n 1 "$$log"
 
-# The program: target/bin/ask < QUESTION
-ask:
-	rt check ask
+# The programs for people: target/bin/ask, write_sheet and check_sheet.
+programs:
+	rt check ask write_sheet check_sheet
 
-# Sheets as files: target/bin/write_sheet and target/bin/check_sheet, each QUESTION-FILE irrelevant|computable SHEET-FILE.
-sheets:
-	rt check write_sheet check_sheet
+# A question asked, its sheet written and checked, as README shows.
+run: programs
+	examples/whole-run
 
 # The scope document's twelve cases, and the shortcuts that it warns of, with both answers and the rows that show a no.
 twelve:
