@@ -1,7 +1,7 @@
 # The commands of the project. `make test` is the gate.
 SHELL := /bin/bash
 .SHELLFLAGS := -euo pipefail -c
-.PHONY: test programs run twelve refusals lib soak bench fmt
+.PHONY: test programs run twelve published refusals lib soak bench fmt
 
 cargo = cargo $(1) --quiet --offline --release --manifest-path rust/Cargo.toml
 
@@ -23,6 +23,11 @@ run: programs
 twelve:
 	rt check twelve
 	target/bin/twelve
+
+# The published examples of two reports: what the report says, and our verdicts, as irrelevant/computable.
+published:
+	rt check published
+	target/bin/published
 
 # The reader on one byte string for each number that says no, at several places: number and place, a line each.
 refusals:
