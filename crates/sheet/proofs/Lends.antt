@@ -13,20 +13,15 @@ use Rattle.meaning.specs.Contents.{Range}
 use Rattle.question.specs.Accepted.{Every}
 use Rattle.grid.specs.Walk.{Below}
 use Rattle.grid.specs.Grid.{least-weight, Bounded}
-use Rattle.formula.specs.Program.{Place, Instr, places, kindsOf}
+use Rattle.formula.specs.Program.{Place, places}
 use Rattle.formula.specs.Vertices.{Ranges, isSome, present}
 use Rattle.formula.specs.Formulas.{Formula}
 use Rattle.formula.specs.Spans.{Compiled}
 use Rattle.formula.specs.declared.types.Formula as compiled
 use Rattle.formula.proofs.Sizes.{SmallPlace}
 use Rattle.formula.proofs.Proper.{SmallRange, Proper}
-use Rattle.sheet.specs.Checking.{Shows, Lent, Places, Lendable, Spanned, SmallSpans}
+use Rattle.sheet.specs.Checking.{Shows, Lent, Places, Spanned, SmallSpans}
 use Rattle.sheet.proofs.Fit.{present-below}
-
-kinds-length : (p : List Instr) → length (kindsOf p) ≡ length p
-unfolding kindsOf
-kinds-length [] = refl
-kinds-length (i ∷ p) = ap suc (kinds-length p)
 
 below-places : (rs : Ranges) (f : Place → ℕ) (ps : List Place) → length rs < mostVertices → Every (λ p. T (present rs (f p))) ps → Below mostVertices (map f ps)
 below-places rs f [] h a = tt
@@ -85,18 +80,6 @@ module _ (f : compiled.Formula) (F : Formula) (is : Compiled f F) where
   pub spanned-of : length (F .ranges) < mostVertices → Spanned (F .ranges) (f .vertices .present) (f .vertices .lo) (f .vertices .hi)
   spanned-of h = record { few = h; shows = shows-of; lows = is .vertices .lo; highs = is .vertices .hi }
 
-  pub kinds-long : f .program .count ≡ length ks
-  kinds-long = is .program .count ∙ sym (kinds-length (F .program)) ∙ ap length (sym (is .program .kinds))
-
-  pub left-long : f .program .places ≡ length ls
-  left-long = is .program .places ∙ sym (length-map (places (F .program)) (λ a. a .left)) ∙ ap length (sym (is .program .left))
-
-  pub right-long : f .program .places ≡ length rs
-  right-long = is .program .places ∙ sym (length-map (places (F .program)) (λ a. a .right)) ∙ ap length (sym (is .program .right))
-
-  pub most-long : f .program .places ≡ length ms
-  most-long = is .program .places ∙ sym (length-map (places (F .program)) (λ a. a .most)) ∙ ap length (sym (is .program .most))
-
   module _ (proper : Proper F) where
     pub count-few : f .program .count ≤ 320
     count-few = omega (arith, is .program .count, proper .short)
@@ -116,9 +99,6 @@ module _ (f : compiled.Formula) (F : Formula) (is : Compiled f F) where
           right-below = below-places (F .ranges) (λ a. a .right) ps (proper .vertices) (every-to (SmallPlace (F .ranges)) (λ p. T (present (F .ranges) (p .right))) ps (λ p b. b .right-is) (proper .places-small));
           small = small-most (F .ranges) ps (proper .places-small);
         })
-
-    pub lendable-of : length (f .vertices .present) ≤ mostVertices → Lendable ks ls rs ms (f .vertices .present)
-    lendable-of h = record { short = omega (arith, ap length (is .program .kinds), kinds-length (F .program), proper .short); places = places-of; flags = h }
 
 -- two formulas of one compiled one have equally many vertices
 pub same-few : (f : compiled.Formula) (F G : Formula) → Compiled f F → Compiled f G → length (F .ranges) < mostVertices → length (G .ranges) < mostVertices

@@ -1,7 +1,6 @@
 -- The closure of the ranges: as `start`, one fact after another.
 use Prim.Native.Nat.{ℕ, zero, suc, _+_, _≤_, _<_}
 use mathlib.Core.Path.{_≡_, refl, ap}
-use mathlib.Core.Bool.{Bool}
 use mathlib.Core.Option.{Option, none, some}
 use mathlib.Core.List.{[], _∷_}
 use native.Mathlib.Omega.{arith}
@@ -13,14 +12,14 @@ use Rattle.meaning.specs.Contents.{Range}
 use Rattle.grid.specs.Grid.{far, Grid, weight, tighten, blank, Sized}
 use Rattle.grid.specs.Near.{Weights, relax, nearBlank, Closure}
 use Rattle.grid.specs.Walk.{Sat}
-use Rattle.grid.proofs.Grids.{tighten-le, tighten-sized, blank-sized, blank-far}
+use Rattle.grid.proofs.Grids.{tighten-sized, blank-sized, blank-far}
 use Rattle.grid.proofs.Nears.{relax-closure, sat-round, tightened, blank-closure, sat-tighten}
-use Rattle.formula.specs.Program.{Values, Place}
+use Rattle.formula.specs.Program.{Values}
 use Rattle.formula.specs.Vertices.{Within, Ranges}
 use Rattle.formula.proofs.Proper.{Nonempty, SmallRange}
 use Rattle.formula.proofs.Sizes.{billion}
 use Rattle.question.specs.Accepted.{Every}
-use Rattle.sheet.specs.Facts.{start, confineAll, taken, decide}
+use Rattle.sheet.specs.Facts.{start, confineAll}
 use Rattle.sheet.specs.Fast.{nearConfineAll, nearStart}
 use Rattle.sheet.proofs.Holds.{confine-le}
 
@@ -78,6 +77,3 @@ start-closure N rs l a b = closure-confine N (lows rs) refl (omega arith) (blank
 
 pub start-far : (N : ℕ) (rs : Ranges) (u v : ℕ) → weight (start N rs) u v ≤ℤ far
 start-far N rs u v = omega (ints, confine-le (blank N) 1 rs u v, blank-far N u v)
-
-pub decide-far : (g : Grid) (p : Place) (d : Bool) → ((u v : ℕ) → weight g u v ≤ℤ far) → (u v : ℕ) → weight (decide g p d) u v ≤ℤ far
-decide-far g p d h u v = omega (ints, h u v, tighten-le g (taken p d .right) (taken p d .left) (taken p d .most) u v)

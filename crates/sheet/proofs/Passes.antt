@@ -25,9 +25,6 @@ use Rattle.sheet.proofs.Fit.{Fit}
 use Rattle.sheet.proofs.Values.{look-tabulate, fits-tabulate, same-part, equal-is}
 use Rattle.meaning.specs.Trouble as trouble
 
-no-yes : {A : Type 0} → says sayNo ≡ says sayYes → A
-no-yes e = let z : _≡_ {A = ℕ} 0 1 = cc in absurd (omega arith)
-
 says-not : {v : Verdict} {n o : ℕ} {A : Type 0} → refusal n o ≡ says v → A
 says-not e = let z : _≡_ {A = ℕ} 0 1 = cc in absurd (omega arith)
 

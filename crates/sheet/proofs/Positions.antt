@@ -1,25 +1,16 @@
--- The checker and the writer over a list of formulas, and over the values of a no sheet, by a position as code keeps it.
+-- The checker and the writer over a list of formulas, by a position as code keeps it.
 use Prim.Native.Nat.{ℕ, zero, suc, _+_, _-_, _≤_, _<_}
 use mathlib.Core.Path.{_≡_, refl, sym, ap, _∙_}
-use mathlib.Core.Bool.{Bool, false}
 use mathlib.Core.List.{List, [], _∷_, _++_, append-assoc, append-nil}
 use native.Mathlib.Omega.{arith}
 use lib.ListN.{length, getD, drop, drop-of-length-le}
 use lib.Seq.{drop-cons}
-use lib.Dec.{leb, le→leb, leb→le}
-use lib.IntN.{ℤ}
-use mir.Syntax.{w32}
-use mir.Val.{ofZ}
-use Rattle.ints.specs.Bytes.{bytes4}
 use Rattle.meaning.specs.Contents.{Values}
 use Rattle.formula.specs.Formulas.{Formula}
 use Rattle.formula.specs.Known.{next}
 use Rattle.sheet.specs.Grow.{shut, openAt, growTree}
-use Rattle.sheet.specs.Rows.{valueAt, bytesOfRow, fieldAt}
-use Rattle.sheet.specs.Sheet.{Answer, refusal, field, checkFields}
 use Rattle.sheet.specs.Tree.{andThen, Tree, bytesOf, passed, checkTree}
 use Rattle.sheet.specs.Trees.{checkTrees, Finding, allShut, firstOpen, before, writeTrees, bytesAll}
-use Rattle.sheet.proofs.Fit.{to-true, to-false}
 use Rattle.formula.specs.Program as P
 
 -- ---- formulas from position i on
@@ -90,26 +81,3 @@ pub bytes-more : (ts : List Tree) (t : Tree) → bytesAll (ts ++ t ∷ []) ≡ b
 unfolding bytesAll
 bytes-more [] t = append-nil (bytesOf t)
 bytes-more (u ∷ ts) t = ap (λ l. bytesOf u ++ l) (bytes-more ts t) ∙ sym (append-assoc (bytesOf u) (bytesAll ts) (bytesOf t))
-
--- ---- fields: too short, wrong, right
-pub field-short : (s : List ℕ) (at w : ℕ) (ok : Bool) (number : ℕ) (next : Answer) → length s < at + w → field s at w ok number next ≡ refusal 11 at
-field-short s at w ok number next h = rw (to-false (leb (at + w) (length s)) (λ t. omega (arith, leb→le (at + w) (length s) t)))
-
-pub field-wrong : (s : List ℕ) (at w : ℕ) (ok : Bool) (number : ℕ) (next : Answer) → at + w ≤ length s → ok ≡ false → field s at w ok number next ≡ refusal number at
-field-wrong s at w ok number next h e = rw (to-true (leb (at + w) (length s)) (le→leb (at + w) (length s) h), e)
-
--- the values from field c on, m in all
-module _ (ok : ℕ → ℤ → Bool) (s : List ℕ) (m c : ℕ) (next : Answer) where
-  pub fields-next : c < m → checkFields ok s (m - c) c next ≡ field s (fieldAt c) 4 (ok c (valueAt s c)) 15 (checkFields ok s (m - suc c) (suc c) next)
-  unfolding checkFields
-  fields-next h = let e : m - c ≡ suc (m - suc c) = omega arith in rw e refl
-
-  pub fields-end : m ≤ c → checkFields ok s (m - c) c next ≡ next
-  unfolding checkFields
-  fields-end h = let e : m - c ≡ 0 = omega arith in rw e refl
-
--- ---- values written one after another
-pub row-more : (zs : Values) (z : ℤ) → bytesOfRow (zs ++ z ∷ []) ≡ bytesOfRow zs ++ bytes4 (ofZ w32 z)
-unfolding bytesOfRow
-row-more [] z = append-nil (bytes4 (ofZ w32 z))
-row-more (y ∷ zs) z = ap (λ l. bytes4 (ofZ w32 y) ++ l) (row-more zs z) ∙ sym (append-assoc (bytes4 (ofZ w32 y)) (bytesOfRow zs) (bytes4 (ofZ w32 z)))

@@ -5,15 +5,14 @@ use mathlib.Core.Bool.{Bool, true, false}
 use mathlib.Core.List.{List, [], _∷_, _++_}
 use lib.ListN.{length, getD, drop, drop-of-length-le}
 use lib.Seq.{drop-cons}
-use Rattle.grid.specs.Grid.{Grid, weight}
+use Rattle.grid.specs.Grid.{Grid}
 use Rattle.grid.specs.Near.{Weights}
-use Rattle.grid.specs.Search.{search, dist}
 use Rattle.formula.specs.Formulas.{Formula}
 use Rattle.formula.specs.Known.{known}
 use Rattle.formula.specs.Program.{Place}
 use Rattle.sheet.specs.Facts.{decide}
 use Rattle.sheet.specs.Fast.{sideOf, calmNode, fast}
-use Rattle.sheet.specs.Grow.{join, openAt, atNode, grow}
+use Rattle.sheet.specs.Grow.{join, openAt}
 use Rattle.sheet.specs.Tree.{andThen, refused, falseNode, cycleNode, check}
 
 module _ (n : ℕ) (F : Formula) (ds : List Bool) (g : Grid) where
@@ -41,14 +40,6 @@ module _ (n : ℕ) (F : Formula) (ds : List Bool) (g : Grid) where
     pub check-split-none : length ps ≤ i → (at : ℕ) (bs : List ℕ) → check (suc n) F (drop i ps) ds g at (3 ∷ bs) ≡ refused 15 at
     unfolding check
     check-split-none h at bs = rw (drop-of-length-le ps h)
-
-    pub grow-split : i < length ps → grow n F (drop i ps) ds g ≡ atNode (known (F .program) ds) (search (weight g) n) (dist (weight g) n) (join (grow n F (drop (suc i) ps) (ds ++ true ∷ []) (decide g (getD ps i some-place) true)) (grow n F (drop (suc i) ps) (ds ++ false ∷ []) (decide g (getD ps i some-place) false)))
-    unfolding grow
-    grow-split h = rw (drop-cons ps i some-place h)
-
-    pub grow-end : length ps ≤ i → grow n F (drop i ps) ds g ≡ atNode (known (F .program) ds) (search (weight g) n) (dist (weight g) n) (openAt (dist (weight g) n))
-    unfolding grow
-    grow-end h = rw (drop-of-length-le ps h)
 
     -- the fast rule, by the same number
     module _ (near : Weights) where

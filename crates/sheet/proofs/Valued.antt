@@ -1,6 +1,6 @@
 -- The values of a no sheet at the vertices, one field at a time; and the truth of every place at them.
 use Prim.Native.Nat.{ℕ, zero, suc, _+_, _≤_, _<_}
-use mathlib.Core.Path.{_≡_, refl, sym, ap, ap₂, _∙_}
+use mathlib.Core.Path.{_≡_, refl, sym, ap, _∙_}
 use mathlib.Core.Bool.{Bool, true, false, cond}
 use mathlib.Core.List.{List, [], _∷_, _++_, append-nil}
 use native.Mathlib.Numerals.{add-one}
@@ -19,6 +19,7 @@ use Rattle.meaning.specs.Contents.{Question}
 use Rattle.formula.specs.Formulas.{Formula, tabulate}
 use Rattle.sheet.specs.Rows.{width, fields, valueAt, readValues}
 use Rattle.sheet.specs.NoSheet.{seen, Small, testAt}
+use Rattle.sheet.proofs.Values.{tabulate-same}
 
 -- ---- the array of values
 
@@ -65,15 +66,10 @@ seen-more s x j l h (suc k) = go (eqb k j) refl
 
 -- ---- what the fields of a formula's rows stand for
 
-tabulate-alike : (n : ℕ) (f g : ℕ → ℤ) → ((i : ℕ) → f i ≡ g i) → tabulate n f ≡ tabulate n g
-unfolding tabulate
-tabulate-alike zero f g e = refl
-tabulate-alike (suc n) f g e = ap₂ _∷_ (e 0) (tabulate-alike n (λ i. f (suc i)) (λ i. g (suc i)) (λ i. e (suc i)))
-
 -- the two rows are one list
 tabulate-more : (n m k : ℕ) (f g : ℕ → ℤ) → k ≡ n + m → ((c : ℕ) → g c ≡ f (n + c)) → tabulate n f ++ tabulate m g ≡ tabulate k f
 unfolding tabulate
-tabulate-more zero m k f g l e = let d : k ≡ m = omega arith in rw d (tabulate-alike m g f (λ c. e c ∙ ap f (omega arith)))
+tabulate-more zero m k f g l e = let d : k ≡ m = omega arith in rw d (tabulate-same m g f (λ c h. e c ∙ ap f (omega arith)))
 tabulate-more (suc n) m zero f g l e = absurd (omega arith)
 tabulate-more (suc n) m (suc k) f g l e = ap (λ r. f 0 ∷ r) (tabulate-more n m k (λ i. f (suc i)) g (omega arith) (λ c. e c ∙ ap f (omega arith)))
 

@@ -1,7 +1,7 @@
 -- Values written as bytes are read back; rows of read values, by the column.
 -- ---- written, then read
 use Prim.Native.Nat.{ℕ, zero, suc, _+_, _*_, _<_}
-use mathlib.Core.Path.{_≡_, refl, ap, ap₂, _∙_}
+use mathlib.Core.Path.{_≡_, refl, sym, ap, ap₂, _∙_}
 use mathlib.Core.Bool.{Bool, true, false, _||_}
 use mathlib.Core.List.{List, [], _∷_, _++_, map, append-assoc, head-eq-of-cons-eq, tail-eq-of-cons-eq}
 use native.Mathlib.Omega.{arith}
@@ -61,6 +61,14 @@ tabulate-is zero f [] l e = refl
 tabulate-is zero f (x ∷ u) l e = absurd (omega arith)
 tabulate-is (suc n) f [] l e = absurd (omega arith)
 tabulate-is (suc n) f (x ∷ u) l e = ap₂ _∷_ (e 0 (omega arith)) (tabulate-is n (λ i. f (suc i)) u (omega arith) (λ i h. e (suc i) (omega arith)))
+
+pub tabulate-length : (n : ℕ) (f : ℕ → ℤ) → length (tabulate n f) ≡ n
+unfolding tabulate
+tabulate-length zero f = refl
+tabulate-length (suc n) f = ap suc (tabulate-length n (λ i. f (suc i)))
+
+pub tabulate-same : (n : ℕ) (f g : ℕ → ℤ) → ((j : ℕ) → j < n → f j ≡ g j) → tabulate n f ≡ tabulate n g
+tabulate-same n f g e = tabulate-is n f (tabulate n g) (tabulate-length n g) (λ j h. e j h ∙ sym (look-tabulate n g j h))
 
 pub fits-tabulate : (gs : List Range) (d : Range) (f : ℕ → ℤ) → ((i : ℕ) → i < length gs → T (inRange (getD gs i d) (f i))) → T (fits gs (tabulate (length gs) f))
 unfolding tabulate

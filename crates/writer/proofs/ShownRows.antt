@@ -22,9 +22,9 @@ use Rattle.formula.specs.Seen.{rowSight}
 use Rattle.formula.proofs.Shapes.{columns-length}
 use Rattle.sheet.specs.Rows.{width, fields, putRow, firstRow, secondRow, bytesOfRow, fixed, matches}
 use Rattle.sheet.proofs.Allowed.{getD-some, row-before, row-past}
-use Rattle.sheet.proofs.Columns.{tabulate-length, Wide, first-value, second-value}
+use Rattle.sheet.proofs.Columns.{Wide, first-value, second-value}
 use Rattle.sheet.proofs.Inserted.{orElse}
-use Rattle.sheet.proofs.Values.{equal-is, look-tabulate, tabulate-is}
+use Rattle.sheet.proofs.Values.{equal-is, tabulate-length, tabulate-same}
 use Rattle.writer.specs.Room.{Filling, puts}
 use Rattle.writer.specs.Showing.{rowFor, rowsFor, Showable, Alike}
 use Rattle.writer.proofs.Puts.{puts-append}
@@ -127,9 +127,6 @@ module _ (f : Filling) (q : Question) (i : ℕ) (x : P.Values) (pairs : Bool) wh
   rows-one e = rw e (rows-split (firstRow q i x) [])
 
 -- ---- rows of values that agree
-
-tabulate-same : (n : ℕ) (f g : ℕ → ℤ) → ((j : ℕ) → j < n → f j ≡ g j) → tabulate n f ≡ tabulate n g
-tabulate-same n f g e = tabulate-is n f (tabulate n g) (tabulate-length n g) (λ j h. e j h ∙ sym (look-tabulate n g j h))
 
 pub rows-alike : (q : Question) (i : ℕ) (F : Formula) (values : Values) (x : P.Values) (pairs : Bool) → F .pairs ≡ pairs → Alike (fields q F) values x → rowsFor q i pairs (look values) ≡ firstRow q i x ++ secondRow q F x
 rows-alike q i F values x pairs e a = rw (← e) (go (F .pairs) a)
