@@ -9,8 +9,8 @@
  *
  * Build the library with `make lib` and link target/staticlib/libcapi.a (x86-64). It calls nothing
  * (no allocation, no input or output, no global state), so the functions may be called from any
- * thread at once. They need some stack (sheets are walked by recursion, at most 121 nodes deep): a
- * thread with 8 MiB has plenty.
+ * thread at once. They need some stack (sheets and formulas are walked by recursion, at most 320
+ * deep): a thread with 8 MiB has plenty.
  *
  * Every function returns 0, or the number of the refusal:
  *
@@ -51,7 +51,7 @@ extern "C" {
 #define VU_NO 1           /* the verdict: it isn't */
 #define VU_NO_VERDICT 255 /* what *verdict holds after every refusal */
 
-/* The verdict alone. It needs no room, and takes as long as writing the sheet.
+/* The verdict alone. It needs no room, and is found faster than the sheet is written.
  *
  * Returns 0:   *verdict is VU_YES or VU_NO, *place is 0.
  * Otherwise:   *verdict is VU_NO_VERDICT, *place is the refusal's place. Numbers 1 to 9 and 20.

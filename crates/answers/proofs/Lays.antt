@@ -16,7 +16,7 @@ use Rattle.formula.specs.Program.{Values}
 use Rattle.formula.proofs.Proper.{formulas-proper}
 use Rattle.sheet.specs.Rows.{fields, noBytes}
 use Rattle.formula.specs.Able.{noFormula}
-use Rattle.sheet.specs.Sheet.{lastVertex, header, sayYes, sayNo, sheetFor, verdictFor, findingOf}
+use Rattle.sheet.specs.Sheet.{lastVertex, header, sayYes, sayNo, sheetFor, findingOf}
 use Rattle.sheet.specs.Trees.{Finding, allShut, firstOpen, bytesAll}
 use Rattle.sheet.specs.declared.types.Verdict.the-variants.{Yes, No}
 use Rattle.sheet.proofs.Findings.{no-found, opens-at}
@@ -84,20 +84,6 @@ module _ (q : Question) (ok : Accepted q) (a : ℕ) where
 
     pub number-byte : r .open ≡ true → r .number < 256
     number-byte o = omega (arith, number-there o, few q (q .change) (ok .change) (eqb a 1))
-
-    pub verdict-yes : r .open ≡ false → sayYes ≡ verdictFor (findingOf q a)
-    verdict-yes o = go (findingOf q a) h
-      where
-        go : (f : Finding) → Finds mid s f new r → sayYes ≡ verdictFor f
-        go (allShut ts) k = refl
-        go (firstOpen i F x) k = absurd (true≢false (sym (k .0) ∙ o))
-
-    pub verdict-no : r .open ≡ true → sayNo ≡ verdictFor (findingOf q a)
-    verdict-no o = go (findingOf q a) h
-      where
-        go : (f : Finding) → Finds mid s f new r → sayNo ≡ verdictFor f
-        go (allShut ts) k = absurd (true≢false (sym o ∙ k .0))
-        go (firstOpen i F x) k = refl
 
     -- where a yes sheet's header was put before
     module _ (old : List ℕ) (d : filling mid s ≡ puts (filling old atStart) (header a sayYes)) where

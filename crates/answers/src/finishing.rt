@@ -2,31 +2,13 @@
 use crate::laying::lay;
 use crate::types::Written;
 use question::types::Question;
-use sheet::types::Verdict;
-use writer::finding::find;
-use writer::room::Spot;
 use writer::room::clear;
 ghost use mathlib.Core.Path.{_≡_};
 ghost use Rattle.question.specs.Held.{Held, questionOf};
 ghost use Rattle.question.specs.Accepted.{Accepted};
 ghost use Rattle.sheet.specs.Answers.{placed};
-ghost use Rattle.sheet.specs.Answered.{verdictOf};
 ghost use Rattle.sheet.specs.Sheet.{verdictFor, findingOf, sheetOf};
 ghost use Rattle.answers.specs.Told.{doneOf};
-
-// The verdict alone: the writer is given a room that is already full, and stores and searches for nothing.
-pub fn judge(q: Question, asked: u8) -> Verdict
-    requires { ⌜ Held q × Accepted (questionOf q) ⌝ }
-    ensures { λ r. ⌜ verdictOf r ≡ verdictFor (findingOf (questionOf q) asked) ⌝ }
-{
-    let mut room = [0u8; 1];
-    let found = find(&mut room, Spot { at: 0, over: true }, q, asked);
-    let open = found.open;
-    if open {
-        return Verdict::No;
-    }
-    Verdict::Yes
-}
 
 // The sheet and zeros after it; zeros only, where the sheet is longer than the room.
 pub fn finish(room: &mut [u8], q: Question, asked: u8) -> Written

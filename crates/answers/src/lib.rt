@@ -4,11 +4,11 @@ mod laying;
 pub mod types;
 
 use crate::finishing::finish;
-use crate::finishing::judge;
 use crate::types::Judged;
 use crate::types::Written;
 use question::types::Answer;
 use sheet::asking::ask;
+use tableau::judging::judge;
 ghost use mathlib.Core.Path.{_≡_};
 ghost use Rattle.sheet.specs.Answers.{verdictOf, writeOf};
 ghost use Rattle.answers.specs.Told.{judgedOf, doneOf};

@@ -1,0 +1,9 @@
+pub mod Tightens
+pub mod Turns
+pub mod Goes
+pub mod Prefixes
+pub mod Tables
+pub mod Links
+pub mod Settles
+pub mod Roots
+pub mod Judges

@@ -1,0 +1,110 @@
+-- What the tableau is given at first: the whole program, wanted true, under the ranges' facts.
+use Prim.Native.Nat.{ℕ, zero, suc, _≤_, _<_}
+use mathlib.Core.Path.{_≡_, refl, sym, ap, _∙_, subst}
+use mathlib.Core.Bool.{Bool, true, false}
+use mathlib.Core.List.{List}
+use native.Mathlib.Omega.{arith}
+use lib.ListN.{length, getD, take}
+use lib.IntN.{ℤ}
+use Rattle.ints.proofs.Bridge.{ints}
+use Rattle.grid.specs.Grid.{Grid}
+use Rattle.formula.specs.Formulas.{Formula}
+use Rattle.formula.specs.Program.{Values, Program, test, truth, places}
+use Rattle.formula.proofs.Proper.{Proper}
+use Rattle.sheet.specs.Facts.{start}
+use Rattle.sheet.proofs.NearStart.{start-far}
+use Rattle.sheet.proofs.Standing.{lent-place}
+use Rattle.sheet.specs.Checking.{placeAt}
+use Rattle.writer.specs.Planting.{Coded}
+use Rattle.writer.specs.Starting.{NearStarts}
+use Rattle.writer.proofs.Plants.{lengths, ready}
+use Rattle.tableau.specs.Nodes.{says, valueAt, placeOf, whole, Describes, Linked}
+use Rattle.tableau.specs.Goals.{noGoal, stackOf, Met, Fit, total, Solves, Decides, TrueAt, Laid, Standing}
+use Rattle.tableau.specs.declared.types.Goal.{Goal}
+use Rattle.tableau.specs.declared.types.Root.{Root}
+use Rattle.tableau.proofs.Turns.{goal}
+use Rattle.tableau.proofs.Settles.{settle, truth-settle, sat-range, range-sat}
+
+-- only a place's instruction looks at its place
+says-same : (k : ℕ) (t u a b : Bool) → (k ≡ 0 → t ≡ u) → says k t a b ≡ says k u a b
+says-same zero t u a b e = e refl
+says-same (suc zero) t u a b e = refl
+says-same (suc (suc zero)) t u a b e = refl
+says-same (suc (suc (suc zero))) t u a b e = refl
+says-same (suc (suc (suc (suc zero)))) t u a b e = refl
+says-same (suc (suc (suc (suc (suc k))))) t u a b e = refl
+
+-- the one goal, or none
+module _ (goals : List Goal) (r : Root) (e : getD goals 0 noGoal ≡ goal (r .at) true) where
+  met-whole : (v : ℕ → Bool) (h : ℕ) → h ≤ 1 → (Met v (stackOf goals h) → whole v (r .at) h ≡ true) × (whole v (r .at) h ≡ true → Met v (stackOf goals h))
+  met-whole v zero l = (λ m. refl, λ w. tt)
+  met-whole v (suc zero) l = (λ m. subst (λ g. v (g .at) ≡ g .want) e (m .0), λ w. (subst (λ g. v (g .at) ≡ g .want) (sym e) w, tt))
+  met-whole v (suc (suc h)) l = absurd (omega arith)
+
+  fit-root : (sizes : List ℕ) (n h : ℕ) → h ≤ 1 → (0 < h → (r .at < n) × (0 < getD sizes (r .at) 0) × (getD sizes (r .at) 0 ≤ n)) → Fit sizes n (stackOf goals h) × (total sizes (stackOf goals h) ≤ n)
+  fit-root sizes n zero l f = (tt, omega arith)
+  fit-root sizes n (suc zero) l f = let o = f (omega arith) in rw e ((o .0, o .1, tt), omega (arith, o .2))
+  fit-root sizes n (suc (suc h)) l f = absurd (omega arith)
+
+module _ (F : Formula) (kinds : List ℕ) (n : ℕ) (left right : List ℕ) (most : List ℤ) (few : ℕ) (c : Coded F kinds n left right most few) (proper : Proper F)
+    (near : Grid) (near-is : NearStarts (suc (length (F .ranges))) (F .ranges) near)
+    (first second sizes : List ℕ) (r : Root) (linked : Linked (take n kinds) first second sizes r) where
+  abbrev p : Program
+  p = F .program
+
+  abbrev ks : List ℕ
+  ks = take n kinds
+
+  abbrev ls : List ℕ
+  ls = take few left
+
+  abbrev rs : List ℕ
+  rs = take few right
+
+  abbrev ms : List ℤ
+  ms = take few most
+
+  places-few : length ms ≡ length (places p)
+  places-few = lengths F kinds n left right most few c .2 ∙ c .few-is
+
+  few-are : linked .few ≡ length ms
+  few-are = linked .few-is p (sym (c .lent .kinds)) ∙ sym places-few
+
+  pub describes : Describes (valueAt p) (placeAt ls rs ms) ks first second sizes (length ks)
+  describes x j h z =
+      linked .describes p (sym (c .lent .kinds)) x j h z
+      ∙ says-same (getD ks j 0) (test x (placeOf p (getD first j 0))) (test x (placeAt ls rs ms (getD first j 0))) (valueAt p x (getD first j 0)) (valueAt p x (getD second j 0))
+      (λ k. ap (test x) (sym (lent-place p ks ls rs ms (c .lent) (getD first j 0))))
+
+  module _ (last : ℕ) (e : last ≡ length (F .ranges)) (short : length ks ≤ 320) where
+    pub laid : Laid ks first second sizes ls rs ms last
+    laid =
+        let o = ready F kinds n left right most few c proper (start 17 (F .ranges)) near refl near-is in
+        record { placed = rw e (record { few = o .few; as-long = (o .as-long .0, o .as-long .1); facts = o .facts }); shaped = rw (← few-are) (linked .shaped); short = short }
+
+    module _ (goals : List Goal) (g : getD goals 0 noGoal ≡ goal (r .at) true) where
+      pub standing : (budget : ℕ) → budget ≡ length ks → Standing ks sizes last goals (r .height) near budget
+      standing budget b =
+          let f = fit-root goals r g sizes (length ks) (r .height) (linked .low) (linked .root) in
+          record {
+            fit = f .0;
+            enough = omega (arith, f .1);
+            few = omega arith;
+            tight = rw e (record { itself = near-is .closed .itself; triangle = near-is .closed .triangle; ceiling = λ u v hu hv. omega (ints, near-is .closed .edge u v hu hv, start-far 17 (F .ranges) u v) });
+          }
+
+      -- the goal is met where the formula is true
+      goal-true : (x : Values) → (Met (valueAt p x) (stackOf goals (r .height)) → truth x p ≡ true) × (truth x p ≡ true → Met (valueAt p x) (stackOf goals (r .height)))
+      goal-true x =
+          let w = met-whole goals r g (valueAt p x) (r .height) (linked .low) in
+          let t = linked .truth-is p (sym (c .lent .kinds)) x in
+          (λ m. t ∙ w .0 m, λ h. w .1 (sym t ∙ h))
+
+      pub decides : (answer : Bool) → Decides answer (Solves (valueAt p) last near (stackOf goals (r .height))) → Decides answer (TrueAt F)
+      decides true d =
+          let x = d .0 in
+          let s = d .1 in
+          (settle (F .ranges) x, (sat-range (F .ranges) (proper .vertices) (proper .ranges-small) near (near-is .closed) x (s .at-zero) (rw e at (s .sat)), truth-settle (F .ranges) x p (proper .places-small) ∙ goal-true x .0 (s .met)))
+      decides false d = λ x h.
+          let y = settle (F .ranges) x in
+          d y (record { at-zero = h .0 .at-zero; sat = rw e (range-sat (F .ranges) (proper .vertices) (proper .ranges-small) near (near-is .closed) x (h .0)); met = goal-true y .1 (truth-settle (F .ranges) x p (proper .places-small) ∙ h .1) })

@@ -1,0 +1,35 @@
+-- The closure of the facts so far, by itself: what values meet it, and what one fact more makes of it.
+use Prim.Native.Nat.{ℕ, _<_}
+use mathlib.Core.Path.{_≡_}
+use mathlib.Core.Bool.{Bool}
+use mathlib.Core.List.{List}
+use lib.ListN.{length}
+use lib.IntN.{ℤ, pos, _+ℤ_}
+use lib.Signed.{_≤ℤ_}
+use Rattle.meaning.specs.Limits.{mostVertices}
+use Rattle.grid.specs.Grid.{Grid, weight, Sized, far}
+use Rattle.grid.specs.Walk.{Sat}
+use Rattle.formula.specs.Program.{Values}
+use Rattle.sheet.specs.Facts.{taken}
+use Rattle.sheet.specs.Checking.{placeAt}
+use Rattle.writer.specs.Growing.{Fact}
+
+-- least sums between the vertices below n: 0 from each to itself, no way round is less, none is above a missing edge's weight
+pub record Tight (n : ℕ) (near : Grid) : Type 0 where
+  pub itself : (u : ℕ) → u < n → weight near u u ≡ pos 0
+  pub triangle : (u v x : ℕ) → u < n → v < n → x < n → weight near u x ≤ℤ (weight near u v +ℤ weight near v x)
+  pub ceiling : (u v : ℕ) → u < n → v < n → weight near u v ≤ℤ far
+
+-- r is near with one fact more: the values that meet r are those that meet near and the fact
+pub record Closer (n : ℕ) (near : Grid) (from to : ℕ) (k : ℤ) (r : Grid) : Type 0 where
+  pub sized : Sized mostVertices r
+  pub tight : Tight n r
+  pub old : (x : Values) → Sat (weight r) n x → Sat (weight near) n x
+  pub fact : (x : Values) → Sat (weight r) n x → x to ≤ℤ (x from +ℤ k)
+  pub both : (x : Values) → Sat (weight near) n x → x to ≤ℤ (x from +ℤ k) → Sat (weight r) n x
+
+-- places between vertices up to the last, with small constants
+pub record Placed (last : ℕ) (left right : List ℕ) (most : List ℤ) : Type 0 where
+  pub few : last < 17
+  pub as-long : (length left ≡ length most) × (length right ≡ length most)
+  pub facts : (i : ℕ) → i < length most → (d : Bool) → Fact last (taken (placeAt left right most i) d .right) (taken (placeAt left right most i) d .left) (taken (placeAt left right most i) d .most)

@@ -1,0 +1,80 @@
+// Whether a formula is true at some values in range.
+use crate::linking::link;
+use crate::opening::opens;
+use crate::types::Goal;
+use formula::types::Formula;
+use writer::starting::near_start;
+ghost use Rattle.formula.specs.Formulas as written;
+ghost use Rattle.formula.specs.Spans.{Compiled};
+ghost use Rattle.formula.proofs.Proper.{Proper};
+ghost use Rattle.sheet.specs.Checking.{Fine};
+ghost use Rattle.writer.specs.Planting.{Coded, Ranging, Plantable};
+ghost use Rattle.tableau.specs.Goals.{Decides, TrueAt};
+
+// Of a compiled formula's parts: the whole program is wanted true, under the ranges' facts.
+fn decide(
+    kinds: [u8; 320],
+    n: usize,
+    left: [u8; 120],
+    right: [u8; 120],
+    most: [i64; 120],
+    few: usize,
+    count: usize,
+    flags: [bool; 17],
+    lo: [i64; 17],
+    hi: [i64; 17],
+) -> bool
+    requires { ⌜ Plantable kinds n left right most few count flags lo hi ⌝ }
+    ensures { λ r. ⌜ ((F : written.Formula) → Coded F kinds n left right most few → Ranging (F .ranges) count flags lo hi → Proper F → Decides r (TrueAt F)) ⌝ }
+{
+    let near = near_start(count, flags, lo, hi);
+    let mut first = [0u16; 320];
+    let mut second = [0u16; 320];
+    let mut sizes = [0u16; 320];
+    let root = link(&kinds[..n], &mut first, &mut second, &mut sizes);
+    let at = root.at;
+    let height = root.height;
+    let goals = [Goal { at, want: true }; 320];
+    opens(
+        &kinds[..n],
+        &first,
+        &second,
+        &sizes,
+        &left[..few],
+        &right[..few],
+        &most[..few],
+        count - 1,
+        goals,
+        height,
+        near,
+        n,
+    )
+}
+
+// Of a compiled formula.
+pub fn formula_opens(f: Formula) -> bool
+    requires { ⌜ Fine f ⌝ }
+    ensures { λ r. ⌜ ((F : written.Formula) → Compiled f F → Proper F → Decides r (TrueAt F)) ⌝ }
+{
+    let p = f.program;
+    let v = f.vertices;
+    let kinds = p.kinds;
+    let left = p.left;
+    let right = p.right;
+    let most = p.most;
+    let flags = v.present;
+    let lo = v.lo;
+    let hi = v.hi;
+    decide(
+        kinds,
+        p.count,
+        left,
+        right,
+        most,
+        p.places,
+        v.count,
+        flags,
+        lo,
+        hi,
+    )
+}

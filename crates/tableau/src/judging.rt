@@ -1,0 +1,28 @@
+// The verdict for a question that was read: no where a formula is true at some values in range.
+use crate::deciding::formula_opens;
+use formula::formulas::formula;
+use formula::formulas::formula_count;
+use question::types::Question;
+use sheet::types::Verdict;
+ghost use mathlib.Core.Path.{_≡_};
+ghost use Rattle.question.specs.Held.{Held, questionOf};
+ghost use Rattle.question.specs.Accepted.{Accepted};
+ghost use Rattle.sheet.specs.Answered.{verdictOf};
+ghost use Rattle.sheet.specs.Sheet.{verdictFor, findingOf};
+
+// It is that of the sheet, whose trees or values are not looked for.
+pub fn judge(q: Question, asked: u8) -> Verdict
+    requires { ⌜ Held q × Accepted (questionOf q) ⌝ }
+    ensures { λ r. ⌜ verdictOf r ≡ verdictFor (findingOf (questionOf q) asked) ⌝ }
+{
+    let n = formula_count(q, asked);
+    let mut i: usize = 0;
+    while i < n {
+        let f = formula(q, asked, i);
+        if formula_opens(f) {
+            return Verdict::No;
+        }
+        i += 1;
+    }
+    Verdict::Yes
+}
