@@ -68,7 +68,7 @@ pub fn near_blank() -> [[i64; VERTICES]; VERTICES]
 }
 
 // One row of the least sums with a new edge: reach is the sum of the way to the edge and along it, on the row of the way on.
-fn relax_row(row: &mut [i64], on: &[i64], n: usize, reach: i64)
+pub fn relax_row(row: &mut [i64], on: &[i64], n: usize, reach: i64)
     requires { ⌜ (n ≤ length (now row)) × (n ≤ length (now on)) ⌝ }
     requires { ⌜ Bounded wide reach ⌝ }
     requires { ⌜ RowWithin wide n (now on) ⌝ }

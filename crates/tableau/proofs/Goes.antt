@@ -12,9 +12,8 @@ use Rattle.grid.specs.Grid.{Grid, weight, Sized}
 use Rattle.grid.specs.Walk.{Sat}
 use Rattle.formula.specs.Program.{Values, Place}
 use Rattle.sheet.specs.Facts.{taken}
-use Rattle.sheet.specs.Fast.{strained}
 use Rattle.sheet.specs.Checking.{placeAt}
-use Rattle.tableau.specs.Closed.{Tight, Closer}
+use Rattle.tableau.specs.Closed.{Tight, Enters}
 use Rattle.tableau.specs.Nodes.{Made, Describes}
 use Rattle.tableau.specs.Goals.{noGoal, stackOf, Fit, total, Solves, Decides, Laid, Standing, splitting, unlike}
 use Rattle.tableau.specs.declared.types.Goal.{Goal}
@@ -105,11 +104,11 @@ module _ (kinds first second sizes left right : List ℕ) (most : List ℤ) (las
 
         -- ---- a place
 
-        pub place-fails : k ≡ 0 → strained (weight sums) q ≡ true → (v : Values → ℕ → Bool) → Describing v → Decides false (Solves v last near (stackOf goals height))
-        place-fails e s = fails (λ v d. clash kinds first second sizes left right most last laid g gs fit v d sums e s)
+        pub place-fails : (answer : Bool) (r : Grid) → answer ≡ true → k ≡ 0 → Enters (suc last) sums (q .right) (q .left) (q .most) answer r → (v : Values → ℕ → Bool) → Describing v → Decides false (Solves v last near (stackOf goals height))
+        place-fails answer r is e s = fails (λ v d. clash kinds first second sizes left right most last laid g gs fit v d sums e (subst (λ b. Enters (suc last) sums (q .right) (q .left) (q .most) b r) is s))
 
-        pub place-goes : (r : Grid) → k ≡ 0 → Closer (suc last) sums (q .right) (q .left) (q .most) r → Going goals height near budget todo (h - 1) r (rest - 1)
-        place-goes r e c = goes todo (h - 1) r gs (w .long) (c .sized) refl (fit .2) (omega (arith, enough, fit .1)) (c .tight) (λ v d. place-same kinds first second sizes left right most last laid g gs fit v d sums r e c)
+        pub place-goes : (answer : Bool) (r : Grid) → answer ≡ false → k ≡ 0 → Enters (suc last) sums (q .right) (q .left) (q .most) answer r → Going goals height near budget todo (h - 1) r (rest - 1)
+        place-goes answer r is e s = let c = subst (λ b. Enters (suc last) sums (q .right) (q .left) (q .most) b r) is s in goes todo (h - 1) r gs (w .long) (c .sized) refl (fit .2) (omega (arith, enough, fit .1)) (c .tight) (λ v d. place-same kinds first second sizes left right most last laid g gs fit v d sums r e c)
 
         -- ---- a constant
 

@@ -1,27 +1,46 @@
 -- Laws of the closure by itself: its entries are small, and one fact more keeps it.
-use Prim.Native.Nat.{ℕ, suc, _≤_, _<_}
-use mathlib.Core.Path.{_≡_}
+use Prim.Native.Nat.{ℕ, suc, _+_, _≤_, _<_}
+use mathlib.Core.Path.{_≡_, refl, sym, ap, _∙_}
 use mathlib.Core.Logic.{_⊎_, inl, inr}
 use mathlib.Core.Bool.{Bool, true, false}
-use mathlib.Core.List.{[]}
+use mathlib.Core.List.{List, []}
 use native.Mathlib.Omega.{arith}
+use native.Mathlib.Decide.{ℕ-discrete}
+use lib.ListN.{length, getD, set, length-set}
+use lib.Seq.{getD-set-same, getD-set-other}
 use lib.IntN.{ℤ, pos, negsuc, _+ℤ_, negℤ}
-use lib.Signed.{_≤ℤ_, leZ}
+use lib.Signed.{_≤ℤ_, _<ℤ_, leZ, ltZ}
 use mir.Syntax.{w64}
 use mir.Val.{SFits}
 use Rattle.ints.proofs.Bridge.{minZ, min-spec, ints, eq-out, +law, neg-up, neg-dn}
-use Rattle.ints.proofs.Machine.{machine, lt-false, le-true, le-false, true-le, false-le}
-use Rattle.grid.specs.Grid.{Grid, Sized, weight, tighten, tabled, far, farN, AllWithin}
-use Rattle.grid.specs.Near.{Weights, relax, Closure}
+use Rattle.ints.proofs.Machine.{machine, lt-true, lt-false, le-true, le-false, true-le, false-le}
+use Rattle.grid.specs.Grid.{Grid, Sized, row, filled, weight, tighten, far, farN, AllWithin}
+use Rattle.grid.specs.Near.{Weights, via, relax, Closure}
 use Rattle.grid.specs.Walk.{Sat}
 use Rattle.grid.proofs.Grids.{tighten-le}
-use Rattle.grid.proofs.Nears.{relax-closure, tightened, tabled-closure, sat-tighten, sat-reached, near-small}
-use Rattle.grid.proofs.Rows.{tabled-sized}
+use Rattle.grid.proofs.Nears.{closure-same, relax-closure, tightened, sat-tighten, sat-reached, near-small}
+use Rattle.grid.proofs.Rows.{filled-at, filled-length}
+use Rattle.grid.proofs.Relaxed.{newRow}
 use Rattle.formula.specs.Program.{Values, Place, test}
 use Rattle.sheet.specs.Facts.{taken}
-use Rattle.sheet.specs.Fast.{strained}
 use Rattle.writer.specs.Growing.{Fact}
-use Rattle.tableau.specs.Closed.{Tight, Closer}
+use Rattle.tableau.specs.Closed.{Tight, Closer, Enters}
+
+-- the closure with a new edge, row by row: those before u are done, the others as they were
+pub record Entering (n : ℕ) (near : Grid) (from to : ℕ) (k : ℤ) (u : ℕ) (h : Grid) : Type 0 where
+  pub sized : Sized 17 h
+  pub done : (r v : ℕ) → r < u → v < n → weight h r v ≡ relax (weight near) from to k r v
+  pub rest : (r : ℕ) → u ≤ r → row h r ≡ row near r
+
+pub entering-start : (n : ℕ) (near : Grid) (from to : ℕ) (k : ℤ) → Sized 17 near → Entering n near from to k 0 near
+entering-start n near from to k z = record { sized = z; done = λ r v l. absurd (omega arith); rest = λ r l. refl }
+
+least : (a b : ℤ) → a ≤ℤ b → minZ a b ≡ a
+least a b h = go (min-spec a b .2)
+  where
+    go : (minZ a b ≡ a) ⊎ (minZ a b ≡ b) → minZ a b ≡ a
+    go (inl e) = e
+    go (inr e) = omega (ints, e, min-spec a b .0)
 
 module _ (n : ℕ) (near : Grid) (t : Tight n near) where
   -- it is the closure of any weights that are the same between the vertices
@@ -32,38 +51,64 @@ module _ (n : ℕ) (near : Grid) (t : Tight n near) where
   tight-within = record {
     entry = λ u v hu hv.
         let w : Weights = λ a b. minZ (weight near a b) far in
-        let b = near-small n w (weight near) (λ a b. min-spec (weight near a b) far .1) (tight-closure w (λ a b ha hb. (least (weight near a b) (t .ceiling a b ha hb), min-spec (weight near a b) far .0))) u v hu hv in
+        let b = near-small n w (weight near) (λ a b. min-spec (weight near a b) far .1) (tight-closure w (λ a b ha hb. (omega (ints, least (weight near a b) far (t .ceiling a b ha hb)), min-spec (weight near a b) far .0))) u v hu hv in
         record { high = b .0; low = b .1 };
   }
-    where
-      least : (z : ℤ) → z ≤ℤ far → z ≤ℤ minZ z far
-      least z h = go (min-spec z far .2)
-        where
-          go : (minZ z far ≡ z) ⊎ (minZ z far ≡ far) → z ≤ℤ minZ z far
-          go (inl e) = omega (ints, e)
-          go (inr e) = omega (ints, e)
 
   -- one fact more
   module _ (few : n ≤ 17) (table : Sized 17 near) (from to : ℕ) (k : ℤ) (hf : from < n) (ht : to < n) where
-    pub closer-same : weight near from to ≤ℤ k → Closer n near from to k near
+    -- the entries between the vertices are those of the new closure
+    closer-relaxed : (r : Grid) → Sized 17 r → ((u v : ℕ) → u < n → v < n → weight r u v ≡ relax (weight near) from to k u v) → pos 0 ≤ℤ (weight near to from +ℤ k) → Closer n near from to k r
     unfolding Sat
-    closer-same h = record { sized = table; tight = t; old = λ x s. s; fact = λ x s. omega (ints, s from to hf ht, +law (x from) (weight near from to), +law (x from) k); both = λ x s f. s }
-
-    pub closer-relaxed : pos 0 ≤ℤ (weight near to from +ℤ k) → Closer n near from to k (tabled (relax (weight near) from to k) n near)
-    unfolding Sat
-    closer-relaxed h =
+    closer-relaxed r sized e h =
         let g = tighten near from to k in
-        let r = tabled (relax (weight near) from to k) n near in
         let m = tightened 17 near from to k table (omega arith) (omega arith) in
-        let c : Closure n (weight g) (weight r) = tabled-closure n 17 (weight g) (relax (weight near) from to k) near few table (relax-closure n (weight near) (weight near) (tight-closure (weight near) (λ u v hu hv. (omega ints, omega ints))) from to k hf ht (weight g) m h) in
+        let c : Closure n (weight g) (weight r) = closure-same n (weight g) (relax (weight near) from to k) (weight r) e (relax-closure n (weight near) (weight near) (tight-closure (weight near) (λ u v hu hv. (omega ints, omega ints))) from to k hf ht (weight g) m h) in
         let less : (u v : ℕ) → u < n → v < n → weight r u v ≤ℤ weight near u v = λ u v hu hv. omega (ints, c .edge u v hu hv, tighten-le near from to k u v) in
         record {
-          sized = tabled-sized (relax (weight near) from to k) 17 n near few table;
+          sized = sized;
           tight = record { itself = c .itself; triangle = c .triangle; ceiling = λ u v hu hv. omega (ints, less u v hu hv, t .ceiling u v hu hv) };
           old = λ x s u v hu hv. omega (ints, s u v hu hv, less u v hu hv, +law (x u) (weight r u v), +law (x u) (weight near u v));
           fact = λ x s. omega (ints, s from to hf ht, c .edge from to hf ht, m .new, +law (x from) (weight r from to), +law (x from) k);
           both = λ x s f u v hu hv. sat-reached n (weight g) x (sat-tighten n near x from to k s f) u v (weight r u v) hu hv (c .reached u v hu hv);
         }
+
+    -- a row that the fact doesn't lower at its end
+    pub entering-stays : (u : ℕ) (h : Grid) → u < n → Entering n near from to k u h → weight near u to ≤ℤ (weight near u from +ℤ k) → Entering n near from to k (u + 1) h
+    unfolding relax
+    entering-stays u h l w s = record {
+      sized = w .sized;
+      done = λ r v m hv. go r v m hv (ℕ-discrete r u);
+      rest = λ r m. w .rest r (omega arith);
+    }
+      where
+        stays : (v : ℕ) → v < n → relax (weight near) from to k u v ≡ weight near u v
+        stays v hv = least (weight near u v) (via (weight near) from to k u v) (omega (ints, s, t .triangle u to v l ht hv, +law (weight near u to) (weight near to v), +law (weight near u from) k, +law (weight near u from +ℤ k) (weight near to v)))
+
+        go : (r v : ℕ) → r < u + 1 → v < n → Dec (r ≡ u) → weight h r v ≡ relax (weight near) from to k r v
+        go r v m hv (yes e) = rw e (ap (λ l. getD l v far) (w .rest u (omega arith)) ∙ sym (stays v hv))
+        go r v m hv (no e) = w .done r v (omega arith) hv
+
+    pub entering-row : (u : ℕ) (h : Grid) (new : List ℤ) → u < n → Entering n near from to k u h → new ≡ newRow near n from to k u → Entering n near from to k (u + 1) (set h u new)
+    entering-row u h new l w e = record {
+      sized = record { rows = length-set h u new ∙ w .sized .rows; columns = λ r m. wide-row r m (ℕ-discrete r u) };
+      done = λ r v m hv. go r v m hv (ℕ-discrete r u);
+      rest = λ r m. getD-set-other h u r new [] (omega arith) ∙ w .rest r (omega arith);
+    }
+      where
+        here : row (set h u new) u ≡ newRow near n from to k u
+        here = getD-set-same h u new [] (omega (arith, w .sized .rows)) ∙ e
+
+        wide-row : (r : ℕ) → r < 17 → Dec (r ≡ u) → length (row (set h u new) r) ≡ 17
+        wide-row r m (yes d) = rw d (ap length here ∙ filled-length (relax (weight near) from to k u) n (row near u) ∙ table .columns u (omega arith))
+        wide-row r m (no d) = ap length (getD-set-other h u r new [] d) ∙ w .sized .columns r m
+
+        go : (r v : ℕ) → r < u + 1 → v < n → Dec (r ≡ u) → weight (set h u new) r v ≡ relax (weight near) from to k r v
+        go r v m hv (yes d) = rw d (ap (λ l. getD l v far) here ∙ filled-at (relax (weight near) from to k u) n (row near u) v far hv (omega (arith, table .columns u (omega arith))))
+        go r v m hv (no d) = ap (λ l. getD l v far) (getD-set-other h u r new [] d) ∙ w .done r v (omega arith) hv
+
+    pub entering-end : (u : ℕ) (h : Grid) → n ≤ u → Entering n near from to k u h → pos 0 ≤ℤ (weight near to from +ℤ k) → Closer n near from to k h
+    entering-end u h l w c = closer-relaxed h (w .sized) (λ r v hr hv. w .done r v (omega arith) hv) c
 
 -- ---- places
 
@@ -78,18 +123,28 @@ module _ (x : Values) (p : Place) where
   fact-taken false h = false-le (x (p .left)) (x (p .right) +ℤ p .most) (omega (ints, +law (x (p .right)) (p .most), +law (x (p .left)) (taken p false .most), +law (negℤ (p .most)) (negsuc 0), neg-up (p .most), neg-dn (p .most)))
 
 -- what a sum of an entry and a fact's weight fits
-pub sum-fits : (last : ℕ) (near : Grid) → Tight (suc last) near → (from to : ℕ) (k : ℤ) → Fact last from to k → SFits w64 (weight near to from +ℤ k)
-sum-fits last near t from to k f =
-    let b = tight-within (suc last) near t .entry to from (f .to-is) (f .from-is) in
-    omega (arith, machine, b .high, b .low, f .high, f .low, +law (weight near to from) k)
+pub sum-fits : (last : ℕ) (near : Grid) → Tight (suc last) near → (from to : ℕ) (k : ℤ) → Fact last from to k → (u : ℕ) → u < suc last → SFits w64 (weight near u from +ℤ k)
+sum-fits last near t from to k f u hu =
+    let b = tight-within (suc last) near t .entry u from hu (f .from-is) in
+    omega (arith, machine, b .high, b .low, f .high, f .low, +law (weight near u from) k)
 
 pub weight-fits : (last from to : ℕ) (k : ℤ) → Fact last from to k → SFits w64 k
 weight-fits last from to k f = omega (arith, machine, f .high, f .low)
 
--- a fact that closes no negative cycle
-pub calm : (near : Grid) (q : Place) → strained (weight near) q ≡ false → pos 0 ≤ℤ (weight near (q .left) (q .right) +ℤ q .most)
-calm near q e = omega (ints, lt-false (weight near (q .left) (q .right) +ℤ q .most) (pos 0) e)
+-- tests of numbers as the machine holds them
+pub below-zero : (a c : ℤ) → a ≡ c → ltZ a (pos 0) ≡ true → c <ℤ pos 0
+below-zero a c e t = omega (ints, lt-true a (pos 0) t, eq-out e)
 
--- a test of numbers as the machine holds them
+pub from-zero : (a c : ℤ) → a ≡ c → ltZ a (pos 0) ≡ false → pos 0 ≤ℤ c
+from-zero a c e t = omega (ints, lt-false a (pos 0) t, eq-out e)
+
 pub tested : (a b c d : ℤ) → a ≡ c → b ≡ d → leZ a b ≡ true → c ≤ℤ d
 tested a b c d e f t = omega (ints, le-true a b t, eq-out e, eq-out f)
+
+-- a row as the code makes it, in the numbers that are meant
+pub row-read : (w w′ on : List ℤ) (x y : ℤ) (m n : ℕ) (new : List ℤ) → new ≡ filled (λ v. minZ (getD w v (pos 0)) (x +ℤ getD on v (pos 0))) m w → w ≡ w′ → x ≡ y → m ≡ n → new ≡ filled (λ v. minZ (getD w′ v (pos 0)) (y +ℤ getD on v (pos 0))) n w′
+row-read w w′ on x y m n new e a b c = rw (a, b, c) at e
+
+-- the fact of a place, wanted so, as the code has it
+pub enters-as : (n : ℕ) (near : Grid) (p : Place) (d want : Bool) (k : ℤ) (answer : Bool) (h : Grid) → want ≡ d → k ≡ taken p d .most → Enters n near (taken p d .right) (taken p d .left) k answer h → Enters n near (taken p want .right) (taken p want .left) (taken p want .most) answer h
+enters-as n near p d want k answer h e f w = rw e (rw f at w)

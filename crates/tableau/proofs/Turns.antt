@@ -7,14 +7,13 @@ use native.Mathlib.Omega.{arith}
 use lib.Dec.{eqb}
 use lib.ListN.{length, getD, set}
 use lib.Seq.{getD-set-same, getD-set-other}
+use lib.Signed.{_<ℤ_}
 use lib.IntN.{ℤ, pos, _+ℤ_}
 use Rattle.ints.proofs.Bridge.{ints, +law}
-use Rattle.ints.proofs.Machine.{lt-true}
 use Rattle.grid.specs.Grid.{Grid, weight}
 use Rattle.grid.specs.Walk.{Sat}
 use Rattle.formula.specs.Program.{Values, Place, test}
 use Rattle.sheet.specs.Facts.{taken}
-use Rattle.sheet.specs.Fast.{strained}
 use Rattle.sheet.specs.Checking.{placeAt}
 use Rattle.tableau.specs.Closed.{Closer}
 use Rattle.tableau.specs.Nodes.{says, Made, Describes}
@@ -142,12 +141,12 @@ module _ (kinds first second sizes left right : List ℕ) (most : List ℤ) (las
       place-told : k ≡ 0 → (x : Values) → v x (g .at) ≡ test x (placeAt left right most a)
       place-told e x = told x ∙ ap (λ m. says m (test x (placeAt left right most a)) (v x a) (v x b)) e
 
-      pub clash : (near : Grid) → k ≡ 0 → strained (weight near) q ≡ true → (x : Values) → ¬ Solves v last near (g ∷ gs) x
+      pub clash : (near : Grid) → k ≡ 0 → (weight near (q .left) (q .right) +ℤ q .most) <ℤ pos 0 → (x : Values) → ¬ Solves v last near (g ∷ gs) x
       unfolding Sat
       clash near e s x r =
           let f = laid .placed .facts a (made .place e) (g .want) in
           let h = taken-fact x (placeAt left right most a) (g .want) (sym (place-told e x) ∙ r .met .0) in
-          omega (ints, h, r .sat (q .left) (q .right) (f .to-is) (f .from-is), lt-true (weight near (q .left) (q .right) +ℤ q .most) (pos 0) s, +law (x (q .right)) (q .most), +law (x (q .left)) (weight near (q .left) (q .right)), +law (weight near (q .left) (q .right)) (q .most))
+          omega (ints, h, r .sat (q .left) (q .right) (f .to-is) (f .from-is), s, +law (x (q .right)) (q .most), +law (x (q .left)) (weight near (q .left) (q .right)), +law (weight near (q .left) (q .right)) (q .most))
 
       pub place-same : (near r : Grid) → k ≡ 0 → Closer (suc last) near (q .right) (q .left) (q .most) r → Same (Solves v last near (g ∷ gs)) (Solves v last r gs)
       place-same near r e c x = (

@@ -1,11 +1,11 @@
 -- The closure of the facts so far, by itself: what values meet it, and what one fact more makes of it.
 use Prim.Native.Nat.{ℕ, _<_}
 use mathlib.Core.Path.{_≡_}
-use mathlib.Core.Bool.{Bool}
+use mathlib.Core.Bool.{Bool, true, false}
 use mathlib.Core.List.{List}
 use lib.ListN.{length}
 use lib.IntN.{ℤ, pos, _+ℤ_}
-use lib.Signed.{_≤ℤ_}
+use lib.Signed.{_≤ℤ_, _<ℤ_}
 use Rattle.meaning.specs.Limits.{mostVertices}
 use Rattle.grid.specs.Grid.{Grid, weight, Sized, far}
 use Rattle.grid.specs.Walk.{Sat}
@@ -27,6 +27,11 @@ pub record Closer (n : ℕ) (near : Grid) (from to : ℕ) (k : ℤ) (r : Grid) :
   pub old : (x : Values) → Sat (weight r) n x → Sat (weight near) n x
   pub fact : (x : Values) → Sat (weight r) n x → x to ≤ℤ (x from +ℤ k)
   pub both : (x : Values) → Sat (weight near) n x → x to ≤ℤ (x from +ℤ k) → Sat (weight r) n x
+
+-- one fact more was tried: it contradicts those in near (it closes a negative cycle), or r is near with it
+abbrev pub Enters : ℕ → Grid → ℕ → ℕ → ℤ → Bool → Grid → Type 0
+Enters n near from to k true r = (weight near to from +ℤ k) <ℤ pos 0
+Enters n near from to k false r = Closer n near from to k r
 
 -- places between vertices up to the last, with small constants
 pub record Placed (last : ℕ) (left right : List ℕ) (most : List ℤ) : Type 0 where

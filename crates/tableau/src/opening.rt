@@ -1,6 +1,5 @@
 // The tableau: parts of the formula that are wanted true or false are taken apart one by one, down to its places.
-use crate::placing::clashes;
-use crate::placing::with_place;
+use crate::placing::enter_place;
 use crate::types::Goal;
 ghost use Prim.Native.Nat.{ℕ};
 ghost use mathlib.Core.Bool.{Bool};
@@ -64,11 +63,9 @@ pub fn opens(
         let a = first[i];
         if kind == 0 {
             let p = a as usize;
-            if clashes(sums, left, right, most, last, p, want) {
+            if enter_place(&mut sums, left, right, most, last, p, want) {
                 return false;
             }
-            let closer = with_place(sums, left, right, most, last, p, want);
-            sums = closer;
             continue;
         }
         if 4 <= kind {

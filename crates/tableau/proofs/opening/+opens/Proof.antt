@@ -14,8 +14,7 @@ use Rattle.tableau.proofs.opening.opens.Kinds as opens-kinds
 use Rattle.tableau.proofs.opening.+opens.Lts-opens as opens-lts
 use Rattle.tableau.proofs.opening.fails.Reads as fails-reads
 use Rattle.tableau.proofs.opening.splits.Reads as splits-reads
-use Rattle.tableau.proofs.placing.clashes.Reads as clashes-reads
-use Rattle.tableau.proofs.placing.with_place.Reads as with-place-reads
+use Rattle.tableau.proofs.placing.enter_place.Reads as enter-place-reads
 use Rattle.tableau.proofs.opening.+opens.{statement}
 use Rattle.tableau.proofs.opening.+opens.Tie.{close}
 
@@ -29,7 +28,7 @@ abbrev opens-below : ℕ → In 7 opens-kinds.ps
 opens-below t = and 7 opens-kinds.ps (falls 7 opens-kinds.ps _<_ μ-opens t) opens.Pre
 
 abbrev opens-calls : ℕ → opens-lts.Claims
-opens-calls t = (clashes-reads.Asked, clashes-reads.Learnt, with-place-reads.Asked, with-place-reads.Learnt, fails-reads.Asked, fails-reads.Learnt, splits-reads.Asked, splits-reads.Learnt, opens-below t, opens.Post)
+opens-calls t = (enter-place-reads.Asked, enter-place-reads.Learnt, fails-reads.Asked, fails-reads.Learnt, splits-reads.Asked, splits-reads.Learnt, opens-below t, opens.Post)
 
 abbrev opens-Inv-loop : opens-lts.InvT-loop
 opens-Inv-loop kinds first second sizes left right most last height budget todo₀ h₀ sums₀ rest₀ todo h sums rest =
@@ -112,29 +111,21 @@ opens-cast-p t c =
     let m = i .before .loop in
     omega (arith, node (now (a .kinds)) (now (a .first)) (now (a .second)) (now (a .sizes)) (now (a .left)) (now (a .right)) (now (a .most)) (a .last) (a .goals) (a .height) (a .near) (a .budget) (s .pre .1 .0) (m .todo) (m .h) (m .sums) (m .rest) (m .inv) (i .loop-test .taken) .place (c .if1 .taken))
 
-opens-clashes-requires : (t : ℕ) → opens-lts.Need-clashes-requires (opens-calls t) (opens-at t) opens.Post opens-Inv-loop opens-μ-loop
-opens-clashes-requires t c κs =
-    let i = c .before .before .before .before .before in
+opens-enter-place-requires : (t : ℕ) → opens-lts.Need-enter-place-requires (opens-calls t) (opens-at t) opens.Post opens-Inv-loop opens-μ-loop
+opens-enter-place-requires t c κs =
+    let i = c .before .before .before .before .before .before in
     let s = i .before .before .before .before .before in
     let a = s .args in
     let m = i .before .loop in
-    (s .pre .1 .0 .placed, node (now (a .kinds)) (now (a .first)) (now (a .second)) (now (a .sizes)) (now (a .left)) (now (a .right)) (now (a .most)) (a .last) (a .goals) (a .height) (a .near) (a .budget) (s .pre .1 .0) (m .todo) (m .h) (m .sums) (m .rest) (m .inv) (i .loop-test .taken) .place (c .if1 .taken), m .inv .standing .tight)
+    (s .pre .1 .0 .placed, node (now (a .kinds)) (now (a .first)) (now (a .second)) (now (a .sizes)) (now (a .left)) (now (a .right)) (now (a .most)) (a .last) (a .goals) (a .height) (a .near) (a .budget) (s .pre .1 .0) (m .todo) (m .h) (m .sums) (m .rest) (m .inv) (i .loop-test .taken) .place (c .before .if1 .taken), m .inv .table, m .inv .standing .tight)
 
 opens-returns : (t : ℕ) → opens-lts.Need-returns (opens-calls t) (opens-at t) opens.Post opens-Inv-loop opens-μ-loop
 opens-returns t c =
-    let i = c .before .before .before .before .before .before .before in
+    let i = c .before .before .before .before .before .before .before .before in
     let s = i .before .before .before .before .before in
     let a = s .args in
     let m = i .before .loop in
-    place-fails (now (a .kinds)) (now (a .first)) (now (a .second)) (now (a .sizes)) (now (a .left)) (now (a .right)) (now (a .most)) (a .last) (a .goals) (a .height) (a .near) (a .budget) (s .pre .1 .0) (m .todo) (m .h) (m .sums) (m .rest) (m .inv) (i .loop-test .taken) (c .before .before .if1 .taken) (sym (c .before .clashes .ensures) ∙ c .if2 .taken)
-
-opens-with-place-requires : (t : ℕ) → opens-lts.Need-with-place-requires (opens-calls t) (opens-at t) opens.Post opens-Inv-loop opens-μ-loop
-opens-with-place-requires t c κs =
-    let i = c .before .before .before .before .before .before .before in
-    let s = i .before .before .before .before .before in
-    let a = s .args in
-    let m = i .before .loop in
-    (s .pre .1 .0 .placed, node (now (a .kinds)) (now (a .first)) (now (a .second)) (now (a .sizes)) (now (a .left)) (now (a .right)) (now (a .most)) (a .last) (a .goals) (a .height) (a .near) (a .budget) (s .pre .1 .0) (m .todo) (m .h) (m .sums) (m .rest) (m .inv) (i .loop-test .taken) .place (c .before .before .if1 .taken), m .inv .standing .tight, sym (c .before .clashes .ensures) ∙ c .if2 .left)
+    place-fails (now (a .kinds)) (now (a .first)) (now (a .second)) (now (a .sizes)) (now (a .left)) (now (a .right)) (now (a .most)) (a .last) (a .goals) (a .height) (a .near) (a .budget) (s .pre .1 .0) (m .todo) (m .h) (m .sums) (m .rest) (m .inv) (i .loop-test .taken) (c .before .enter-place .result) _ (c .if2 .taken) (c .before .before .before .if1 .taken) (c .before .enter-place .ensures)
 
 opens-loop-less : (t : ℕ) → opens-lts.Need-loop-less (opens-calls t) (opens-at t) opens.Post opens-Inv-loop opens-μ-loop
 opens-loop-less t c =
@@ -150,7 +141,7 @@ opens-loop-again t c =
     let s = i .before .before .before .before .before in
     let a = s .args in
     let m = i .before .loop in
-    place-goes (now (a .kinds)) (now (a .first)) (now (a .second)) (now (a .sizes)) (now (a .left)) (now (a .right)) (now (a .most)) (a .last) (a .goals) (a .height) (a .near) (a .budget) (s .pre .1 .0) (m .todo) (m .h) (m .sums) (m .rest) (m .inv) (i .loop-test .taken) _ (c .before .before .before .if1 .taken) (c .with-place .ensures)
+    place-goes (now (a .kinds)) (now (a .first)) (now (a .second)) (now (a .sizes)) (now (a .left)) (now (a .right)) (now (a .most)) (a .last) (a .goals) (a .height) (a .near) (a .budget) (s .pre .1 .0) (m .todo) (m .h) (m .sums) (m .rest) (m .inv) (i .loop-test .taken) (c .before .enter-place .result) _ (c .if2 .left) (c .before .before .before .if1 .taken) (c .before .enter-place .ensures)
 
 opens-fails-requires : (t : ℕ) → opens-lts.Need-fails-requires (opens-calls t) (opens-at t) opens.Post opens-Inv-loop opens-μ-loop
 opens-fails-requires t c κs = search needs
@@ -262,16 +253,16 @@ opens-returns-3 t c =
     let m = i .before .loop in
     λ v d. first-ends (now (a .kinds)) (now (a .first)) (now (a .second)) (now (a .sizes)) (now (a .left)) (now (a .right)) (now (a .most)) (a .last) (a .goals) (a .height) (a .near) (a .budget) (s .pre .1 .0) (m .todo) (m .h) (m .sums) (m .rest) (m .inv) (i .loop-test .taken) (omega (arith, c .before .before .before .before .before .before .if1 .left)) (omega (arith, c .before .before .before .before .before .if3 .left, c .before .before .before .before .if5 .left)) (sym (c .before .before .before .splits .ensures) ∙ c .before .before .if6 .taken) v d _ (c .if7 .taken) (c .before .opens .ensures v d)
 
-opens-mul-t25 : (t : ℕ) → opens-lts.Need-mul-t25 (opens-calls t) (opens-at t) opens.Post opens-Inv-loop opens-μ-loop
-opens-mul-t25 t c =
+opens-mul-t24 : (t : ℕ) → opens-lts.Need-mul-t24 (opens-calls t) (opens-at t) opens.Post opens-Inv-loop opens-μ-loop
+opens-mul-t24 t c =
     let i = c .before .before .before .before .before .before .before .before .before in
     let s = i .before .before .before .before .before in
     let a = s .args in
     let m = i .before .loop in
     omega (arith, fit (now (a .kinds)) (now (a .first)) (now (a .second)) (now (a .sizes)) (now (a .left)) (now (a .right)) (now (a .most)) (a .last) (a .goals) (a .height) (a .near) (a .budget) (s .pre .1 .0) (m .todo) (m .h) (m .sums) (m .rest) (m .inv) (i .loop-test .taken) .0, s .pre .1 .0 .short)
 
-opens-element-copy-out-t33 : (t : ℕ) → opens-lts.Need-element-copy-out-t33 (opens-calls t) (opens-at t) opens.Post opens-Inv-loop opens-μ-loop
-opens-element-copy-out-t33 t c =
+opens-element-copy-out-t32 : (t : ℕ) → opens-lts.Need-element-copy-out-t32 (opens-calls t) (opens-at t) opens.Post opens-Inv-loop opens-μ-loop
+opens-element-copy-out-t32 t c =
     let i = c .before .before .before .before .before .before .before .before .before in
     let s = i .before .before .before .before .before in
     let a = s .args in
@@ -370,9 +361,8 @@ pub +opens-spec : {M : Type 1} → statement M
     (opens-mul-a t)
     (opens-element-copy-out-a t)
     (opens-cast-p t)
-    (opens-clashes-requires t)
+    (opens-enter-place-requires t)
     (opens-returns t)
-    (opens-with-place-requires t)
     (opens-loop-less t)
     (opens-loop-again t)
     (opens-fails-requires t)
@@ -390,8 +380,8 @@ pub +opens-spec : {M : Type 1} → statement M
     (opens-add-opens t)
     (opens-opens-requires t)
     (opens-returns-3 t)
-    (opens-mul-t25 t)
-    (opens-element-copy-out-t33 t)
+    (opens-mul-t24 t)
+    (opens-element-copy-out-t32 t)
     (opens-mul-todo-3 t)
     (opens-array-set-from-todo-3 t)
     (opens-add-todo t)
