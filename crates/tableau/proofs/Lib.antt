@@ -5,5 +5,6 @@ pub mod Prefixes
 pub mod Tables
 pub mod Links
 pub mod Settles
+pub mod Spreads
 pub mod Roots
 pub mod Judges

@@ -6,24 +6,25 @@ use mathlib.Core.List.{List}
 use native.Mathlib.Omega.{arith}
 use lib.ListN.{length, getD, take}
 use lib.IntN.{ℤ}
-use Rattle.ints.proofs.Bridge.{ints}
-use Rattle.grid.specs.Grid.{Grid}
+use Rattle.grid.specs.Grid.{Grid, weight}
+use Rattle.grid.specs.Walk.{Sat}
 use Rattle.formula.specs.Formulas.{Formula}
 use Rattle.formula.specs.Program.{Values, Program, test, truth, places}
 use Rattle.formula.proofs.Proper.{Proper}
-use Rattle.sheet.specs.Facts.{start}
-use Rattle.sheet.proofs.NearStart.{start-far}
 use Rattle.sheet.proofs.Standing.{lent-place}
 use Rattle.sheet.specs.Checking.{placeAt}
-use Rattle.writer.specs.Planting.{Coded}
-use Rattle.writer.specs.Starting.{NearStarts}
-use Rattle.writer.proofs.Plants.{lengths, ready}
+use Rattle.writer.specs.Planting.{Coded, Ranging}
+use Rattle.writer.specs.Starting.{Ranged}
+use Rattle.writer.proofs.Plants.{lengths, ranged, place-facts}
+use Rattle.tableau.specs.Begun.{spread}
+use Rattle.tableau.specs.Closed.{Tight}
 use Rattle.tableau.specs.Nodes.{says, valueAt, placeOf, whole, Describes, Linked}
 use Rattle.tableau.specs.Goals.{noGoal, stackOf, Met, Fit, total, Solves, Decides, TrueAt, Laid, Standing}
 use Rattle.tableau.specs.declared.types.Goal.{Goal}
 use Rattle.tableau.specs.declared.types.Root.{Root}
 use Rattle.tableau.proofs.Turns.{goal}
-use Rattle.tableau.proofs.Settles.{settle, truth-settle, sat-range, range-sat}
+use Rattle.tableau.proofs.Settles.{settle, truth-settle}
+use Rattle.tableau.proofs.Spreads.{begun-tight, sat-range, range-sat}
 
 -- only a place's instruction looks at its place
 says-same : (k : ℕ) (t u a b : Bool) → (k ≡ 0 → t ≡ u) → says k t a b ≡ says k u a b
@@ -47,7 +48,7 @@ module _ (goals : List Goal) (r : Root) (e : getD goals 0 noGoal ≡ goal (r .at
   fit-root sizes n (suc (suc h)) l f = absurd (omega arith)
 
 module _ (F : Formula) (kinds : List ℕ) (n : ℕ) (left right : List ℕ) (most : List ℤ) (few : ℕ) (c : Coded F kinds n left right most few) (proper : Proper F)
-    (near : Grid) (near-is : NearStarts (suc (length (F .ranges))) (F .ranges) near)
+    (count : ℕ) (flags : List Bool) (lo hi : List ℤ) (ranging : Ranging (F .ranges) count flags lo hi) (near : Grid) (near-is : (u v : ℕ) → u < count → v < count → weight near u v ≡ spread flags lo hi u v)
     (first second sizes : List ℕ) (r : Root) (linked : Linked (take n kinds) first second sizes r) where
   abbrev p : Program
   p = F .program
@@ -64,6 +65,9 @@ module _ (F : Formula) (kinds : List ℕ) (n : ℕ) (left right : List ℕ) (mos
   abbrev ms : List ℤ
   ms = take few most
 
+  in-ranges : Ranged count flags lo hi
+  in-ranges = ranged (F .ranges) count flags lo hi ranging (proper .ranges-small) (proper .ranges-some)
+
   places-few : length ms ≡ length (places p)
   places-few = lengths F kinds n left right most few c .2 ∙ c .few-is
 
@@ -79,8 +83,11 @@ module _ (F : Formula) (kinds : List ℕ) (n : ℕ) (left right : List ℕ) (mos
   module _ (last : ℕ) (e : last ≡ length (F .ranges)) (short : length ks ≤ 320) where
     pub laid : Laid ks first second sizes ls rs ms last
     laid =
-        let o = ready F kinds n left right most few c proper (start 17 (F .ranges)) near refl near-is in
-        record { placed = rw e (record { few = o .few; as-long = (o .as-long .0, o .as-long .1); facts = o .facts }); shaped = rw (← few-are) (linked .shaped); short = short }
+        let l = lengths F kinds n left right most few c in
+        record { placed = rw e (record { few = proper .vertices; as-long = (omega (arith, l .0, l .2), omega (arith, l .1, l .2)); facts = place-facts F kinds n left right most few c proper }); shaped = rw (← few-are) (linked .shaped); short = short }
+
+    all : count ≡ suc last
+    all = omega (arith, ranging .count-is)
 
     module _ (goals : List Goal) (g : getD goals 0 noGoal ≡ goal (r .at) true) where
       pub standing : (budget : ℕ) → budget ≡ length ks → Standing ks sizes last goals (r .height) near budget
@@ -90,7 +97,7 @@ module _ (F : Formula) (kinds : List ℕ) (n : ℕ) (left right : List ℕ) (mos
             fit = f .0;
             enough = omega (arith, f .1);
             few = omega arith;
-            tight = rw e (record { itself = near-is .closed .itself; triangle = near-is .closed .triangle; ceiling = λ u v hu hv. omega (ints, near-is .closed .edge u v hu hv, start-far 17 (F .ranges) u v) });
+            tight = subst (λ m. Tight m near) all (begun-tight count flags lo hi in-ranges near near-is);
           }
 
       -- the goal is met where the formula is true
@@ -104,7 +111,7 @@ module _ (F : Formula) (kinds : List ℕ) (n : ℕ) (left right : List ℕ) (mos
       decides true d =
           let x = d .0 in
           let s = d .1 in
-          (settle (F .ranges) x, (sat-range (F .ranges) (proper .vertices) (proper .ranges-small) near (near-is .closed) x (s .at-zero) (rw e at (s .sat)), truth-settle (F .ranges) x p (proper .places-small) ∙ goal-true x .0 (s .met)))
+          (x, (sat-range count flags lo hi in-ranges near near-is (F .ranges) ranging x (s .at-zero) (subst (λ m. Sat (weight near) m x) (sym all) (s .sat)), goal-true x .0 (s .met)))
       decides false d = λ x h.
           let y = settle (F .ranges) x in
-          d y (record { at-zero = h .0 .at-zero; sat = rw e (range-sat (F .ranges) (proper .vertices) (proper .ranges-small) near (near-is .closed) x (h .0)); met = goal-true y .1 (truth-settle (F .ranges) x p (proper .places-small) ∙ h .1) })
+          d y (record { at-zero = h .0 .at-zero; sat = subst (λ m. Sat (weight near) m y) all (range-sat count flags lo hi in-ranges near near-is (F .ranges) ranging x (h .0)); met = goal-true y .1 (truth-settle (F .ranges) x p (proper .places-small) ∙ h .1) })

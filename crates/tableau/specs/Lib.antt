@@ -1,3 +1,4 @@
 pub mod Closed
 pub mod Nodes
 pub mod Goals
+pub mod Begun

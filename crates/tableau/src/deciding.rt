@@ -1,9 +1,9 @@
 // Whether a formula is true at some values in range.
+use crate::beginning::begin;
 use crate::linking::link;
 use crate::opening::opens;
 use crate::types::Goal;
 use formula::types::Formula;
-use writer::starting::near_start;
 ghost use Rattle.formula.specs.Formulas as written;
 ghost use Rattle.formula.specs.Spans.{Compiled};
 ghost use Rattle.formula.proofs.Proper.{Proper};
@@ -27,7 +27,7 @@ fn decide(
     requires { ⌜ Plantable kinds n left right most few count flags lo hi ⌝ }
     ensures { λ r. ⌜ ((F : written.Formula) → Coded F kinds n left right most few → Ranging (F .ranges) count flags lo hi → Proper F → Decides r (TrueAt F)) ⌝ }
 {
-    let near = near_start(count, flags, lo, hi);
+    let near = begin(count, flags, lo, hi);
     let mut first = [0u16; 320];
     let mut second = [0u16; 320];
     let mut sizes = [0u16; 320];

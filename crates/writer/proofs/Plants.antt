@@ -27,6 +27,7 @@ use Rattle.sheet.specs.Sheet.{lastVertex}
 use Rattle.sheet.proofs.Fasts.{Same}
 use Rattle.sheet.proofs.FastAmong.{Ends, fast-table, fast-formula}
 use Rattle.sheet.proofs.Fit.{fit, present-below}
+use Rattle.sheet.specs.Checking.{placeAt}
 use Rattle.sheet.proofs.Holds.{bounds-start}
 use Rattle.sheet.proofs.Lends.{flagged, lent-of, spanned-of}
 use Rattle.sheet.proofs.Standing.{nowhere, lent-place}
@@ -113,11 +114,14 @@ module _ (F : Formula) (kinds : List ℕ) (n : ℕ) (left right : List ℕ) (mos
       low = omega (arith, +dn (negℤ (q .most)) (negsuc 0), neg-dn (q .most), s .high);
     }
 
+    pub place-facts : (i : ℕ) → i < length ms → (d : Bool) → Fact (length (F .ranges)) (taken (placeAt ls rs ms i) d .right) (taken (placeAt ls rs ms i) d .left) (taken (placeAt ls rs ms i) d .most)
+    place-facts i h d = subst (λ q. Fact (length (F .ranges)) (taken q d .right) (taken q d .left) (taken q d .most)) (sym (lent-place (F .program) (take n kinds) ls rs ms (c .lent) i)) (fact-of (getD (places (F .program)) i nowhere) (place-at (places (F .program)) (SmallPlace (F .ranges)) (p .places-small) i nowhere (omega (arith, lengths .2, c .few-is))) d)
+
     pub ready : (g near : Grid) → g ≡ start mostVertices (F .ranges) → NearStarts (suc (length (F .ranges))) (F .ranges) near → Ready (length (F .ranges)) ls rs ms g near
     ready g near e s = record {
       few = p .vertices;
       as-long = (omega (arith, lengths .0, lengths .2), omega (arith, lengths .1, lengths .2), omega (arith, lengths .2, c .few-is, p .few-places));
-      facts = λ i h d. subst (λ q. Fact (length (F .ranges)) (taken q d .right) (taken q d .left) (taken q d .most)) (sym (lent-place (F .program) (take n kinds) ls rs ms (c .lent) i)) (fact-of (getD (places (F .program)) i nowhere) (place-at (places (F .program)) (SmallPlace (F .ranges)) (p .places-small) i nowhere (omega (arith, lengths .2, c .few-is))) d);
+      facts = place-facts;
       closed = rw e (s .closed);
       kept = rw e (record { ceiling = start-far mostVertices (F .ranges); floor = bounds-start mostVertices (F .ranges) (p .ranges-small) .floor });
     }

@@ -4,4 +4,4 @@ mod growing;
 mod planting;
 pub mod room;
 pub mod showing;
-pub mod starting;
+mod starting;

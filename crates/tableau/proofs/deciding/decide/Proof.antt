@@ -3,15 +3,15 @@ use Prim.Native.Nat.{_-_}
 use mathlib.Core.Path.{_≡_, refl, sym}
 use lib.ListN.{length}
 use lib.Seq.{length-take-le}
-use Rattle.writer.proofs.Plants.{ranged, lengths, near-of}
+use Rattle.writer.proofs.Plants.{ranged, lengths}
 use Rattle.tableau.specs.Nodes.{valueAt}
 use Rattle.tableau.proofs.Roots.{describes, laid, standing, decides}
 use borrow.Author.Needs.{needs}
 use Rattle.tableau.proofs.deciding.decide.Statement.{statement}
 use Rattle.tableau.proofs.deciding.decide.Tie as tie
 
-near-start-requires : tie.Need-near-start-requires
-near-start-requires c κs =
+begin-requires : tie.Need-begin-requires
+begin-requires c κs =
     let q = c .pre in
     ranged _ _ _ _ _ (q .ranging) (q .proper .ranges-small) (q .proper .ranges-some)
 
@@ -69,7 +69,7 @@ opens-requires c κs =
     let q = s .pre in
     let n = length-take-le (s .args .n) (s .args .t1) (omega (arith, s .good .0 .1 .0 .1, s .pre .coded .n-is, s .pre .proper .short)) in
     let last : s .args .count - 1 ≡ length (q .formula .ranges) = omega (arith, q .ranging .count-is) in
-    (laid (q .formula) (s .args .t1) (s .args .n) (s .args .t3) (s .args .t4) (s .args .t5) (s .args .few) (q .coded) (q .proper) _ (near-of _ _ _ _ _ _ (q .ranging) (c .before .before .before .before .before .before .before .before .before .before .before .before .near-start .ensures)) _ _ _ (c .before .before .before .before .before .before .before .link .result) (c .before .before .before .before .before .before .before .link .ensures) (s .args .count - 1) last (omega (arith, n, s .pre .coded .n-is, s .pre .proper .short)), standing (q .formula) (s .args .t1) (s .args .n) (s .args .t3) (s .args .t4) (s .args .t5) (s .args .few) (q .coded) (q .proper) _ (near-of _ _ _ _ _ _ (q .ranging) (c .before .before .before .before .before .before .before .before .before .before .before .before .near-start .ensures)) _ _ _ (c .before .before .before .before .before .before .before .link .result) (c .before .before .before .before .before .before .before .link .ensures) (s .args .count - 1) last (omega (arith, n, s .pre .coded .n-is, s .pre .proper .short)) _ refl (s .args .n) (sym n))
+    (laid (q .formula) (s .args .t1) (s .args .n) (s .args .t3) (s .args .t4) (s .args .t5) (s .args .few) (q .coded) (q .proper) (s .args .count) (s .args .flags) (s .args .lo) (s .args .hi) (q .ranging) (c .before .before .before .before .before .before .before .before .before .before .before .before .begin .result) (c .before .before .before .before .before .before .before .before .before .before .before .before .begin .ensures) _ _ _ (c .before .before .before .before .before .before .before .link .result) (c .before .before .before .before .before .before .before .link .ensures) (s .args .count - 1) last (omega (arith, n, s .pre .coded .n-is, s .pre .proper .short)), standing (q .formula) (s .args .t1) (s .args .n) (s .args .t3) (s .args .t4) (s .args .t5) (s .args .few) (q .coded) (q .proper) (s .args .count) (s .args .flags) (s .args .lo) (s .args .hi) (q .ranging) (c .before .before .before .before .before .before .before .before .before .before .before .before .begin .result) (c .before .before .before .before .before .before .before .before .before .before .before .before .begin .ensures) _ _ _ (c .before .before .before .before .before .before .before .link .result) (c .before .before .before .before .before .before .before .link .ensures) (s .args .count - 1) last (omega (arith, n, s .pre .coded .n-is, s .pre .proper .short)) _ refl (s .args .n) (sym n))
 
 returns : tie.Need-returns
 returns c =
@@ -77,13 +77,13 @@ returns c =
     let n = length-take-le (s .args .n) (s .args .t1) (omega (arith, s .good .0 .1 .0 .1, s .pre .coded .n-is, s .pre .proper .short)) in
     λ F coded ranging proper.
     let last : s .args .count - 1 ≡ length (F .ranges) = omega (arith, ranging .count-is) in
-    decides F (s .args .t1) (s .args .n) (s .args .t3) (s .args .t4) (s .args .t5) (s .args .few) coded proper _ (near-of _ _ _ _ _ _ ranging (c .before .before .before .before .before .before .before .before .before .before .before .before .before .near-start .ensures)) _ _ _ (c .before .before .before .before .before .before .before .before .link .result) (c .before .before .before .before .before .before .before .before .link .ensures) (s .args .count - 1) last (omega (arith, n, s .pre .coded .n-is, s .pre .proper .short)) _ refl (c .opens .result) (c .opens .ensures (valueAt (F .program)) (describes F (s .args .t1) (s .args .n) (s .args .t3) (s .args .t4) (s .args .t5) (s .args .few) coded proper _ (near-of _ _ _ _ _ _ ranging (c .before .before .before .before .before .before .before .before .before .before .before .before .before .near-start .ensures)) _ _ _ (c .before .before .before .before .before .before .before .before .link .result) (c .before .before .before .before .before .before .before .before .link .ensures)))
+    decides F (s .args .t1) (s .args .n) (s .args .t3) (s .args .t4) (s .args .t5) (s .args .few) coded proper (s .args .count) (s .args .flags) (s .args .lo) (s .args .hi) ranging (c .before .before .before .before .before .before .before .before .before .before .before .before .before .begin .result) (c .before .before .before .before .before .before .before .before .before .before .before .before .before .begin .ensures) _ _ _ (c .before .before .before .before .before .before .before .before .link .result) (c .before .before .before .before .before .before .before .before .link .ensures) (s .args .count - 1) last (omega (arith, n, s .pre .coded .n-is, s .pre .proper .short)) _ refl (c .opens .result) (c .opens .ensures (valueAt (F .program)) (describes F (s .args .t1) (s .args .n) (s .args .t3) (s .args .t4) (s .args .t5) (s .args .few) coded proper (s .args .count) (s .args .flags) (s .args .lo) (s .args .hi) ranging (c .before .before .before .before .before .before .before .before .before .before .before .before .before .begin .result) (c .before .before .before .before .before .before .before .before .before .before .before .before .before .begin .ensures) _ _ _ (c .before .before .before .before .before .before .before .before .link .result) (c .before .before .before .before .before .before .before .before .link .ensures)))
 
 pub decide-spec : {M : Type 1} → statement M
 decide-spec =
     tie.close
     (tie.spec
-    near-start-requires
+    begin-requires
     array-share-prefix-kinds
     slice-aggregate-link
     link-requires
