@@ -51,23 +51,23 @@ module _ (g : Grid) (n : ℕ) (hn : (0 < n) × (n ≤ mostVertices)) (all : AllW
       go i v hi hv (yes e) = let k : j < length h = omega (arith, z .rows) in rw e (ap (λ m. getD m v far) (getD-set-same h j r [] k) ∙ new v hv)
       go i v hi hv (no f) = ap (λ m. getD m v far) (getD-set-other h j i r [] f) ∙ old i v (omega arith) hv
 
-  pub ways-first : (s : ℕ) (h : Grid) (r : List ℤ) → s < n → Sized mostVertices g → Sized mostVertices h → r ≡ filled (λ v. weight g v s) n (row g s) → Ways g n s 1 (set h 0 r)
+  pub ways-first : (s : ℕ) (h : Grid) (r : List ℤ) → s < n → Sized mostVertices h → r ≡ filled (λ v. weight g v s) n (row h 0) → Ways g n s 1 (set h 0 r)
   unfolding best
-  ways-first s h r hs y z e =
+  ways-first s h r hs z e =
       ways-more s 0 h r z (omega arith) (λ i v hi hv. absurd (omega arith))
-      (rw e (filled-length (λ v. weight g v s) n (row g s) ∙ y .columns s (omega (arith, hn))))
-      (λ v hv. rw e (filled-at (λ v. weight g v s) n (row g s) v far hv (omega (arith, hn, y .columns s (omega (arith, hn))))))
+      (rw e (filled-length (λ v. weight g v s) n (row h 0) ∙ z .columns 0 (omega arith)))
+      (λ v hv. rw e (filled-at (λ v. weight g v s) n (row h 0) v far hv (omega (arith, hn, z .columns 0 (omega arith)))))
 
-  pub ways-next : (s j : ℕ) (h : Grid) (r : List ℤ) → s < n → 0 < j → j < mostVertices → Ways g n s j h → r ≡ filled (λ v. least (λ u. weight g v u +ℤ getD (row h (j - 1)) u (pos 0)) (n - 1)) n (row h (j - 1)) → Ways g n s (j + 1) (set h j r)
+  pub ways-next : (s j : ℕ) (h : Grid) (r : List ℤ) → s < n → 0 < j → j < mostVertices → Ways g n s j h → r ≡ filled (λ v. least (λ u. weight g v u +ℤ getD (row h (j - 1)) u (pos 0)) (n - 1)) n (row h j) → Ways g n s (j + 1) (set h j r)
   ways-next s j h r hs h0 hj m e =
       let on : ℕ → ℤ = λ u. getD (row h (j - 1)) u (pos 0) in
       let f : ℕ → ℤ = λ v. least (λ u. weight g v u +ℤ on u) (n - 1) in
-      let l : length (row h (j - 1)) ≡ mostVertices = m .sized .columns (j - 1) (omega arith) in
+      let l : length (row h j) ≡ mostVertices = m .sized .columns j hj in
       let d : suc (j - 1) ≡ j = omega arith in
       let was : (u : ℕ) → u < n → on u ≡ best (weight g) (n - 1) (j - 1) s u = λ u hu. read mostVertices h (j - 1) u (m .sized) (omega arith) (omega (arith, hn)) ∙ m .way-is (j - 1) u (omega arith) hu in
       ways-more s j h r (m .sized) hj (m .way-is)
-      (rw e (filled-length f n (row h (j - 1)) ∙ l))
-      (λ v hv. rw e (filled-at f n (row h (j - 1)) v far hv (omega (arith, hn)) ∙ best-next g n (hn .0) all (j - 1) s v on was ∙ ap (λ i. best (weight g) (n - 1) i s v) d))
+      (rw e (filled-length f n (row h j) ∙ l))
+      (λ v hv. rw e (filled-at f n (row h j) v far hv (omega (arith, hn)) ∙ best-next g n (hn .0) all (j - 1) s v on was ∙ ap (λ i. best (weight g) (n - 1) i s v) d))
 
   pub way-within : (s count : ℕ) (h : Grid) → s < n → count ≤ mostVertices → Ways g n s count h → (j : ℕ) → j < count → RowWithin wide n (row h j)
   way-within s count h hs hc m j hj = record { entry = λ v hv. rw (read mostVertices h j v (m .sized) (omega arith) (omega (arith, hn)) ∙ m .way-is j v hj hv) (best-wide g n (hn .0) all j s v (omega arith) hs hv) }

@@ -27,9 +27,9 @@ pub fn blank() -> [[i64; VERTICES]; VERTICES]
 }
 
 // The weight of the edge between two vertices.
-pub fn edge(g: [[i64; VERTICES]; VERTICES], from: usize, to: usize) -> i64
-    requires { ⌜ (from < mostVertices) × (to < mostVertices) ⌝ }
-    ensures { λ r. ⌜ r ≡ weight g from to ⌝ }
+pub fn edge(g: &[[i64; VERTICES]; VERTICES], from: usize, to: usize) -> i64
+    requires { ⌜ (from < mostVertices) × (to < mostVertices) × Sized mostVertices (now g) ⌝ }
+    ensures { λ r. ⌜ r ≡ weight (now (g .entry)) from to ⌝ }
 {
     g[from][to]
 }
@@ -103,10 +103,10 @@ pub fn relax(
 }
 
 // The sum of a closed walk: along its edges and back to the first vertex.
-pub fn closing(g: [[i64; VERTICES]; VERTICES], vertices: &[u8]) -> i64
+pub fn closing(g: &[[i64; VERTICES]; VERTICES], vertices: &[u8]) -> i64
     requires { ⌜ (0 < length (now vertices)) × (length (now vertices) ≤ mostVertices) × Below mostVertices (now vertices) ⌝ }
-    requires { ⌜ AllWithin farN mostVertices g ⌝ }
-    ensures { λ r. ⌜ r ≡ closed (weight g) (now (vertices .entry)) ⌝ }
+    requires { ⌜ Sized mostVertices (now g) × AllWithin farN mostVertices (now g) ⌝ }
+    ensures { λ r. ⌜ r ≡ closed (weight (now (g .entry))) (now (vertices .entry)) ⌝ }
 {
     let n = vertices.len();
     let first = vertices[0] as usize;
@@ -121,25 +121,23 @@ pub fn closing(g: [[i64; VERTICES]; VERTICES], vertices: &[u8]) -> i64
 }
 
 // The weights of the edges into s, from each vertex below n.
-fn column(g: &[[i64; VERTICES]; VERTICES], n: usize, s: usize) -> [i64; VERTICES]
-    requires { ⌜ (n ≤ mostVertices) × (s < n) × Sized mostVertices (now g) ⌝ }
-    ensures { λ r. ⌜ r ≡ filled (λ v. weight (now (g .entry)) v s) n (row (now (g .entry)) s) ⌝ }
+fn column(g: &[[i64; VERTICES]; VERTICES], row: &mut [i64], n: usize, s: usize)
+    requires { ⌜ (n ≤ mostVertices) × (s < n) × (n ≤ length (now row)) × Sized mostVertices (now g) ⌝ }
+    ensures { λ _. ⌜ now (row .exit) ≡ filled (λ v. weight (now (g .entry)) v s) n (now (row .entry)) ⌝ }
 {
-    let mut h = g[s];
     for v in 0..n {
-        h[v] = g[v][s];
+        row[v] = g[v][s];
     }
-    h
 }
 
 // The least sums of one edge, a row for each vertex that it goes to.
-fn single(g: [[i64; VERTICES]; VERTICES], n: usize) -> [[i64; VERTICES]; VERTICES]
-    requires { ⌜ n ≤ mostVertices ⌝ }
-    ensures { λ r. ⌜ r ≡ tabled (λ s v. weight g v s) n g ⌝ }
+fn single(g: &[[i64; VERTICES]; VERTICES], n: usize) -> [[i64; VERTICES]; VERTICES]
+    requires { ⌜ (n ≤ mostVertices) × Sized mostVertices (now g) ⌝ }
+    ensures { λ r. ⌜ r ≡ tabled (λ s v. weight (now (g .entry)) v s) n (now (g .entry)) ⌝ }
 {
-    let mut h = g;
+    let mut h = *g;
     for s in 0..n {
-        h[s] = column(&g, n, s);
+        column(g, &mut h[s], n, s);
     }
     h
 }
@@ -160,47 +158,42 @@ fn least_sum(edges: &[i64], on: &[i64], n: usize) -> i64
 }
 
 // One edge more: from each vertex the least sum of an edge and the way on.
-fn longer(g: &[[i64; VERTICES]; VERTICES], on: [i64; VERTICES], n: usize) -> [i64; VERTICES]
-    requires { ⌜ (0 < n) × (n ≤ mostVertices) ⌝ }
+fn longer(g: &[[i64; VERTICES]; VERTICES], on: &[i64], row: &mut [i64], n: usize)
+    requires { ⌜ (0 < n) × (n ≤ mostVertices) × (n ≤ length (now on)) × (n ≤ length (now row)) ⌝ }
     requires { ⌜ Sized mostVertices (now g) × AllWithin farN n (now g) ⌝ }
-    requires { ⌜ RowWithin wide n on ⌝ }
-    ensures { λ r. ⌜ r ≡ filled (λ v. least (λ u. weight (now (g .entry)) v u +ℤ getD on u (pos 0)) (n - 1)) n on ⌝ }
+    requires { ⌜ RowWithin wide n (now on) ⌝ }
+    ensures { λ _. ⌜ now (row .exit) ≡ filled (λ v. least (λ u. weight (now (g .entry)) v u +ℤ getD (now (on .entry)) u (pos 0)) (n - 1)) n (now (row .entry)) ⌝ }
 {
-    let mut h = on;
     for v in 0..n {
-        let sum = least_sum(&g[v], &on, n);
-        h[v] = sum;
+        row[v] = least_sum(&g[v], on, n);
     }
-    h
 }
 
 // One edge more for every start.
 fn further(
     g: &[[i64; VERTICES]; VERTICES],
-    sums: [[i64; VERTICES]; VERTICES],
+    sums: &[[i64; VERTICES]; VERTICES],
     n: usize,
 ) -> [[i64; VERTICES]; VERTICES]
     requires { ⌜ (0 < n) × (n ≤ mostVertices) ⌝ }
     requires { ⌜ Sized mostVertices (now g) × AllWithin farN n (now g) ⌝ }
-    requires { ⌜ AllWithin wide n sums ⌝ }
-    ensures { λ r. ⌜ r ≡ tabled (λ s v. least (λ u. weight (now (g .entry)) v u +ℤ weight sums s u) (n - 1)) n sums ⌝ }
+    requires { ⌜ Sized mostVertices (now sums) × AllWithin wide n (now sums) ⌝ }
+    ensures { λ r. ⌜ r ≡ tabled (λ s v. least (λ u. weight (now (g .entry)) v u +ℤ weight (now (sums .entry)) s u) (n - 1)) n (now (sums .entry)) ⌝ }
 {
-    let mut h = sums;
+    let mut h = *sums;
     for s in 0..n {
-        let on = sums[s];
-        let row = longer(g, on, n);
-        h[s] = row;
+        longer(g, &sums[s], &mut h[s], n);
     }
     h
 }
 
 // The first vertex below n by which the walk can still close below zero, where sum is the way so far; n if there is none.
-fn first_closing(edges: [i64; VERTICES], on: [i64; VERTICES], n: usize, sum: i64) -> usize
-    requires { ⌜ n ≤ mostVertices ⌝ }
+fn first_closing(edges: &[i64], on: &[i64], n: usize, sum: i64) -> usize
+    requires { ⌜ (n ≤ length (now edges)) × (n ≤ length (now on)) ⌝ }
     requires { ⌜ Bounded wide sum ⌝ }
-    requires { ⌜ RowWithin wide n edges ⌝ }
-    requires { ⌜ RowWithin wide n on ⌝ }
-    ensures { λ r. ⌜ r ≡ first (λ u. ltZ ((sum +ℤ getD edges u (pos 0)) +ℤ getD on u (pos 0)) (pos 0)) n ⌝ }
+    requires { ⌜ RowWithin wide n (now edges) ⌝ }
+    requires { ⌜ RowWithin wide n (now on) ⌝ }
+    ensures { λ r. ⌜ r ≡ first (λ u. ltZ ((sum +ℤ getD (now (edges .entry)) u (pos 0)) +ℤ getD (now (on .entry)) u (pos 0)) (pos 0)) n ⌝ }
 {
     for u in 0..n {
         if sum + edges[u] + on[u] < 0 {
@@ -217,10 +210,10 @@ struct Opening {
 }
 
 // The fewest vertices of a negative closed walk, and the first vertex that has one with so many; count 0 if there is none.
-fn shortest(g: [[i64; VERTICES]; VERTICES], n: usize) -> Opening
+fn shortest(g: &[[i64; VERTICES]; VERTICES], n: usize) -> Opening
     requires { ⌜ (0 < n) × (n ≤ mostVertices) ⌝ }
-    requires { ⌜ AllWithin farN n g ⌝ }
-    ensures { λ r. ⌜ Opens (weight g) (n - 1) (r .count) (r .start) ⌝ }
+    requires { ⌜ Sized mostVertices (now g) × AllWithin farN n (now g) ⌝ }
+    ensures { λ r. ⌜ Opens (weight (now (g .entry))) (n - 1) (r .count) (r .start) ⌝ }
 {
     let mut sums = single(g, n);
     let mut count: usize = 0;
@@ -233,29 +226,27 @@ fn shortest(g: [[i64; VERTICES]; VERTICES], n: usize) -> Opening
                 break 'search;
             }
         }
-        sums = further(&g, sums, n);
+        sums = further(g, &sums, n);
     }
     Opening { count, start }
 }
 
 // The least sums of the walks back to s, row by row one edge more.
 fn ways(
-    g: [[i64; VERTICES]; VERTICES],
+    g: &[[i64; VERTICES]; VERTICES],
     n: usize,
     s: usize,
     count: usize,
 ) -> [[i64; VERTICES]; VERTICES]
     requires { ⌜ (0 < n) × (n ≤ mostVertices) × (s < n) × (0 < count) × (count ≤ n) ⌝ }
-    requires { ⌜ AllWithin farN n g ⌝ }
-    ensures { λ r. ⌜ Ways g n s count r ⌝ }
+    requires { ⌜ Sized mostVertices (now g) × AllWithin farN n (now g) ⌝ }
+    ensures { λ r. ⌜ Ways (now (g .entry)) n s count r ⌝ }
 {
-    let mut h = g;
-    let first = column(&g, n, s);
-    h[0] = first;
+    let mut h = *g;
+    column(g, &mut h[0], n, s);
     for j in 1..count {
         let on = h[j - 1];
-        let row = longer(&g, on, n);
-        h[j] = row;
+        longer(g, &on, &mut h[j], n);
     }
     h
 }
@@ -268,27 +259,25 @@ pub struct Cycle {
 
 // The least list of count vertices that starts at start and closes below zero.
 fn trace(
-    g: [[i64; VERTICES]; VERTICES],
-    ways: [[i64; VERTICES]; VERTICES],
+    g: &[[i64; VERTICES]; VERTICES],
+    ways: &[[i64; VERTICES]; VERTICES],
     n: usize,
     start: usize,
     count: usize,
 ) -> Cycle
     requires { ⌜ (0 < n) × (n ≤ mostVertices) × (start < n) × (0 < count) × (count ≤ n) ⌝ }
-    requires { ⌜ AllWithin farN n g ⌝ }
-    requires { ⌜ Ways g n start count ways ⌝ }
-    requires { ⌜ best (weight g) (n - 1) (count - 1) start start <ℤ pos 0 ⌝ }
-    ensures { λ r. ⌜ (r .count ≡ count) × (take count (r .vertices) ≡ start ∷ greedy (weight g) (n - 1) (count - 1) start (pos 0) start) ⌝ }
+    requires { ⌜ Sized mostVertices (now g) × AllWithin farN n (now g) ⌝ }
+    requires { ⌜ Ways (now g) n start count (now ways) ⌝ }
+    requires { ⌜ best (weight (now g)) (n - 1) (count - 1) start start <ℤ pos 0 ⌝ }
+    ensures { λ r. ⌜ (r .count ≡ count) × (take count (r .vertices) ≡ start ∷ greedy (weight (now (g .entry))) (n - 1) (count - 1) start (pos 0) start) ⌝ }
 {
     let mut vertices = [0u8; VERTICES];
     vertices[0] = start as u8;
     let mut at = start;
     let mut sum: i64 = 0;
     for i in 1..count {
-        let edges = g[at];
-        let on = ways[count - 1 - i];
-        let next = first_closing(edges, on, n, sum);
-        sum = sum + edges[next];
+        let next = first_closing(&g[at], &ways[count - 1 - i], n, sum);
+        sum = sum + g[at][next];
         vertices[i] = next as u8;
         at = next;
     }
@@ -296,10 +285,10 @@ fn trace(
 }
 
 // The negative closed walk among the vertices below n with the fewest edges, then the least vertex list.
-pub fn search(g: [[i64; VERTICES]; VERTICES], n: usize) -> Cycle
+pub fn search(g: &[[i64; VERTICES]; VERTICES], n: usize) -> Cycle
     requires { ⌜ (0 < n) × (n ≤ mostVertices) ⌝ }
-    requires { ⌜ AllWithin farN n g ⌝ }
-    ensures { λ r. ⌜ (cycleOf r ≡ search (weight g) (n - 1)) × (r .count ≤ n) ⌝ }
+    requires { ⌜ Sized mostVertices (now g) × AllWithin farN n (now g) ⌝ }
+    ensures { λ r. ⌜ (cycleOf r ≡ search (weight (now (g .entry))) (n - 1)) × (r .count ≤ n) ⌝ }
 {
     let opening = shortest(g, n);
     let count = opening.count;
@@ -311,5 +300,5 @@ pub fn search(g: [[i64; VERTICES]; VERTICES], n: usize) -> Cycle
         };
     }
     let back = ways(g, n, start, count);
-    trace(g, back, n, start, count)
+    trace(g, &back, n, start, count)
 }

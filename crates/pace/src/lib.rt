@@ -1,12 +1,12 @@
 // The search and the closure's update over and over, for a benchmark to time from outside. Nothing else uses them.
 ghost use Prim.Native.Nat.{_<_, _≤_};
 ghost use Rattle.meaning.specs.Limits.{mostVertices};
-ghost use Rattle.grid.specs.Grid.{farN, Bounded, AllWithin};
+ghost use Rattle.grid.specs.Grid.{farN, Bounded, Sized, AllWithin};
 
 // A way through all vertices, each edge of weight 1.
 fn line(n: usize) -> [[i64; 17]; 17]
     requires { ⌜ n ≤ mostVertices ⌝ }
-    ensures { λ r. ⌜ AllWithin farN mostVertices r ⌝ }
+    ensures { λ r. ⌜ Sized mostVertices r × AllWithin farN mostVertices r ⌝ }
 {
     let mut g = grid::blank();
     let mut i: usize = 1;
@@ -47,7 +47,7 @@ pub extern "C" fn pace_search(n: usize, rounds: u32) -> u64 {
     let mut i: u32 = 0;
     while i < rounds {
         let h = grid::tighten(g, count - 1, 0, turning(i));
-        let c = grid::search(h, count);
+        let c = grid::search(&h, count);
         edges = edges + c.count as u64;
         i += 1;
     }
@@ -59,7 +59,7 @@ fn below(g: [[i64; 17]; 17], from: usize, to: usize) -> u64
     requires { ⌜ (from < mostVertices) × (to < mostVertices) ⌝ }
     ensures { λ r. ⌜ r ≤ 1 ⌝ }
 {
-    if grid::edge(g, from, to) < 0 { 1 } else { 0 }
+    if grid::edge(&g, from, to) < 0 { 1 } else { 0 }
 }
 
 // How many of so many updates brought a sum below zero: that of the way along the new edge, with one edge before it and one after.

@@ -40,7 +40,7 @@ fn lent_tree(
     let a = &left[..places];
     let b = &right[..places];
     let k = &most[..places];
-    tree(used, a, b, k, &shown, part, 0, truths, g, places)
+    tree(used, a, b, k, &shown, part, 0, truths, &g, places)
 }
 
 // A formula's tree at the start of the part that is lent.

@@ -8,7 +8,7 @@ ghost use lib.IntN.{pos};
 ghost use lib.Signed.{ltZ};
 ghost use Rattle.meaning.specs.Limits.{mostVertices};
 ghost use Rattle.grid.specs.Walk.{Below, closed};
-ghost use Rattle.grid.specs.Grid.{weight, farN, AllWithin};
+ghost use Rattle.grid.specs.Grid.{weight, farN, Sized, AllWithin};
 ghost use Rattle.formula.specs.Cells.{bit};
 ghost use Rattle.formula.specs.Known.{knownKinds};
 ghost use Rattle.formula.specs.Formulas.{Formula};
@@ -63,20 +63,20 @@ pub fn false_leaf(kinds: &[u8], truths: [u8; 120], decided: usize, part: &[u8], 
 }
 
 // Following the edges and back to the first gives a sum below zero.
-fn below_zero(g: [[i64; 17]; 17], vertices: &[u8]) -> bool
+fn below_zero(g: &[[i64; 17]; 17], vertices: &[u8]) -> bool
     requires { ⌜ (0 < length (now vertices)) × (length (now vertices) ≤ mostVertices) × Below mostVertices (now vertices) ⌝ }
-    requires { ⌜ AllWithin farN mostVertices g ⌝ }
-    ensures { λ r. ⌜ r ≡ ltZ (closed (weight g) (now (vertices .entry))) (pos 0) ⌝ }
+    requires { ⌜ Sized mostVertices (now g) × AllWithin farN mostVertices (now g) ⌝ }
+    ensures { λ r. ⌜ r ≡ ltZ (closed (weight (now (g .entry))) (now (vertices .entry))) (pos 0) ⌝ }
 {
     let sum = grid::closing(g, vertices);
     sum < 0
 }
 
 // Node 2: count 1 to 17, vertices.
-pub fn cycle(shown: &[bool], g: [[i64; 17]; 17], part: &[u8], at: usize) -> Past
+pub fn cycle(shown: &[bool], g: &[[i64; 17]; 17], part: &[u8], at: usize) -> Past
     requires { ⌜ (length (now shown) ≤ mostVertices) × (at < length (now part)) ⌝ }
-    requires { ⌜ AllWithin farN mostVertices g ⌝ }
-    ensures { λ r. ⌜ ((F : Formula) (base : ℕ) → Shows (now (shown .entry)) (F .ranges) → outcomeOf base (now (part .entry)) r ≡ cycleNode mostVertices F g (base + at) (drop (at + 1) (now (part .entry)))) ⌝ }
+    requires { ⌜ Sized mostVertices (now g) × AllWithin farN mostVertices (now g) ⌝ }
+    ensures { λ r. ⌜ ((F : Formula) (base : ℕ) → Shows (now (shown .entry)) (F .ranges) → outcomeOf base (now (part .entry)) r ≡ cycleNode mostVertices F (now (g .entry)) (base + at) (drop (at + 1) (now (part .entry)))) ⌝ }
 {
     let from = at + 1;
     if part.len() <= from {

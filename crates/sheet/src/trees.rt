@@ -7,7 +7,7 @@ ghost use mathlib.Core.Path.{_≡_};
 ghost use Prim.Native.Nat.{ℕ, _+_, _≤_};
 ghost use lib.ListN.{length, drop};
 ghost use Rattle.meaning.specs.Limits.{mostVertices};
-ghost use Rattle.grid.specs.Grid.{farN, AllWithin};
+ghost use Rattle.grid.specs.Grid.{farN, Sized, AllWithin};
 ghost use Rattle.formula.specs.Formulas.{Formula};
 ghost use Rattle.sheet.specs.Checking.{outcomeOf, Shows, Lent, Lendable, checkLeft};
 
@@ -22,12 +22,12 @@ pub fn tree(
     part: &[u8],
     at: usize,
     truths: [u8; 120],
-    g: [[i64; 17]; 17],
+    g: &[[i64; 17]; 17],
     todo: usize,
 ) -> Past
     requires { ⌜ Lendable (now kinds) (now left) (now right) (now most) (now shown) ⌝ }
-    requires { ⌜ (todo ≤ length (now left)) × AllWithin farN mostVertices g ⌝ }
-    ensures { λ r. ⌜ ((F : Formula) (base : ℕ) → Lent (F .program) (now (kinds .entry)) (now (left .entry)) (now (right .entry)) (now (most .entry)) → Shows (now (shown .entry)) (F .ranges) → outcomeOf base (now (part .entry)) r ≡ checkLeft F todo truths g (base + at) (drop at (now (part .entry)))) ⌝ }
+    requires { ⌜ (todo ≤ length (now left)) × Sized mostVertices (now g) × AllWithin farN mostVertices (now g) ⌝ }
+    ensures { λ r. ⌜ ((F : Formula) (base : ℕ) → Lent (F .program) (now (kinds .entry)) (now (left .entry)) (now (right .entry)) (now (most .entry)) → Shows (now (shown .entry)) (F .ranges) → outcomeOf base (now (part .entry)) r ≡ checkLeft F todo truths (now (g .entry)) (base + at) (drop at (now (part .entry)))) ⌝ }
 {
     if part.len() <= at {
         return Past::Refused(11, at);
@@ -52,7 +52,7 @@ pub fn tree(
     let less = todo - 1;
     let mut next = truths;
     next[decided] = 1;
-    let yes = decide(g, a, b, k, true);
+    let yes = decide(*g, a, b, k, true);
     let one = tree(
         kinds,
         left,
@@ -62,14 +62,14 @@ pub fn tree(
         part,
         at + 1,
         next,
-        yes,
+        &yes,
         less,
     );
     match one {
         Past::At(p) => {
             next[decided] = 0;
-            let no = decide(g, a, b, k, false);
-            tree(kinds, left, right, most, shown, part, p, next, no, less)
+            let no = decide(*g, a, b, k, false);
+            tree(kinds, left, right, most, shown, part, p, next, &no, less)
         }
         Past::Refused(number, p) => Past::Refused(number, p),
     }

@@ -13,11 +13,12 @@ use Rattle.ints.proofs.Bridge.{up, dn, ints, eq-out}
 use Rattle.ints.proofs.Machine.{machine, lt-false}
 use mir.Syntax.{w64}
 use mir.Val.{SFits}
-use Rattle.grid.specs.Grid.{Grid, weight, tighten, tabled, far, farN, least-weight, Bounded, AllWithin, Sized}
+use Rattle.grid.specs.Grid.{Grid, weight, tighten, tabled, far, farN, least-weight, Bounded, AllWithin}
 use Rattle.grid.specs.Near.{relax}
 use Rattle.grid.specs.Found as Found
 use Rattle.grid.specs.declared.Cycle.{Cycle}
-use Rattle.grid.proofs.Grids.{tighten-keeps, tighten-le}
+use Rattle.grid.proofs.Grids.{tighten-keeps, tighten-le, tighten-sized}
+use Rattle.grid.proofs.Rows.{tabled-sized}
 use Rattle.grid.proofs.Nears.{relax-closure, tightened, tabled-closure, near-small}
 use Rattle.formula.specs.Formulas.{Formula}
 use Rattle.formula.specs.Known.{Three, fails, passes, open?}
@@ -68,39 +69,43 @@ kept-within g k n = record { entry = λ u v hu hv. let c = k .ceiling u v in rec
 
 -- ---- one more fact
 
+module _ (last from to : ℕ) (k : ℤ) (fact : Fact last from to k) where
+  pub fact-bounded : Bounded farN k
+  fact-bounded = record { high = omega (arith, fact .high); low = omega (arith, fact .low) }
+
+  pub fact-fits : SFits w64 k
+  fact-fits = omega (arith, machine, fact .high, fact .low)
+
+  pub kept-next : (g : Grid) → Kept g → Kept (tighten g from to k)
+  kept-next g kept = record {
+    sized = tighten-sized 17 g from to k (kept .sized);
+    ceiling = λ u v. omega (ints, tighten-le g from to k u v, kept .ceiling u v);
+    floor = λ u v. tighten-keeps (λ z. dn z ≤ least-weight) g from to k u v (kept .floor u v) (λ a b. fact .low);
+  }
+
 module _ (last : ℕ) (left right : List ℕ) (most : List ℤ) (g near : Grid) (ready : Ready last left right most g near) where
   pub near-within : AllWithin farN (suc last) near
   near-within = record { entry = λ u v hu hv. let b = near-small (suc last) (weight g) (weight near) (ready .kept .ceiling) (ready .closed) u v hu hv in record { high = b .0; low = b .1 } }
 
   module _ (from to : ℕ) (k : ℤ) (fact : Fact last from to k) where
-    pub fact-bounded : Bounded farN k
-    fact-bounded = record { high = omega (arith, fact .high); low = omega (arith, fact .low) }
-
-    pub fact-fits : SFits w64 k
-    fact-fits = omega (arith, machine, fact .high, fact .low)
-
-    pub kept-next : Kept (tighten g from to k)
-    kept-next = record {
-      ceiling = λ u v. omega (ints, tighten-le g from to k u v, ready .kept .ceiling u v);
-      floor = λ u v. tighten-keeps (λ z. dn z ≤ least-weight) g from to k u v (ready .kept .floor u v) (λ a b. fact .low);
-    }
-
     -- where it closes no negative cycle, its grid and the closure in a table are ready
-    pub ready-next : Sized 17 g → Sized 17 near → pos 0 ≤ℤ (weight near to from +ℤ k) → Ready last left right most (tighten g from to k) (tabled (relax (weight near) from to k) (suc last) near)
-    ready-next sg sn h =
+    pub ready-next : pos 0 ≤ℤ (weight near to from +ℤ k) → Ready last left right most (tighten g from to k) (tabled (relax (weight near) from to k) (suc last) near)
+    ready-next h =
         let g₂ = tighten g from to k in
-        let t = tightened 17 g from to k sg (omega (arith, ready .few, fact .from-is)) (omega (arith, ready .few, fact .to-is)) in
+        let few : suc last ≤ 17 = omega (arith, ready .few) in
+        let t = tightened 17 g from to k (ready .kept .sized) (omega (arith, ready .few, fact .from-is)) (omega (arith, ready .few, fact .to-is)) in
         record {
           few = ready .few;
           as-long = ready .as-long;
           facts = ready .facts;
-          closed = tabled-closure (suc last) 17 (weight g₂) (relax (weight near) from to k) near (omega (arith, ready .few)) sn (relax-closure (suc last) (weight g) (weight near) (ready .closed) from to k (fact .from-is) (fact .to-is) (weight g₂) t h);
-          kept = kept-next;
+          closed = tabled-closure (suc last) 17 (weight g₂) (relax (weight near) from to k) near few (ready .table) (relax-closure (suc last) (weight g) (weight near) (ready .closed) from to k (fact .from-is) (fact .to-is) (weight g₂) t h);
+          kept = kept-next last from to k fact g (ready .kept);
+          table = tabled-sized (relax (weight near) from to k) 17 (suc last) near few (ready .table);
         }
 
     -- the same, as the code hands it on
-    pub ready-handed : Sized 17 g → Sized 17 near → (x : ℤ) (facts closer : Grid) → x ≡ weight near to from +ℤ k → facts ≡ tighten g from to k → closer ≡ tabled (relax (weight near) from to k) (suc last) near → ltZ x (pos 0) ≡ false → Ready last left right most facts closer
-    ready-handed sg sn x facts closer e i j t = rw (i, j) (ready-next sg sn (omega (ints, lt-false x (pos 0) t, eq-out e)))
+    pub ready-handed : (x : ℤ) (facts closer : Grid) → x ≡ weight near to from +ℤ k → facts ≡ tighten g from to k → closer ≡ tabled (relax (weight near) from to k) (suc last) near → ltZ x (pos 0) ≡ false → Ready last left right most facts closer
+    ready-handed x facts closer e i j t = rw (i, j) (ready-next (omega (ints, lt-false x (pos 0) t, eq-out e)))
 
 -- ---- a node whose facts close a negative cycle
 

@@ -138,8 +138,8 @@ module _ (last : ℕ) (F : Formula) (kinds left right : List ℕ) (most : List �
   closer = tabled (relax (weight near) from to k) (suc last) near
 
   -- it does not
-  pub side-calm : (x : ℤ) (facts₁ closer₁ : Grid) → x ≡ weight near to from +ℤ k → facts₁ ≡ facts → closer₁ ≡ closer → (old new : List ℕ) (s : Spot) (r : Grown) → ltZ x (pos 0) ≡ false → Ready last left right most g near → Sized mostVertices near → Grows last old s (fastAt last F decided truths facts₁ closer₁) new r → Grows last old s (sideBy last F decided truths g near from to k) new r
-  side-calm x facts₁ closer₁ e i j old new s r t ready sz h =
+  pub side-calm : (x : ℤ) (facts₁ closer₁ : Grid) → x ≡ weight near to from +ℤ k → facts₁ ≡ facts → closer₁ ≡ closer → (old new : List ℕ) (s : Spot) (r : Grown) → ltZ x (pos 0) ≡ false → Ready last left right most g near → Grows last old s (fastAt last F decided truths facts₁ closer₁) new r → Grows last old s (sideBy last F decided truths g near from to k) new r
+  side-calm x facts₁ closer₁ e i j old new s r t ready h =
       let h₂ = subst (λ y. Grows last old s (fastAt last F decided truths facts y) new r) j (subst (λ y. Grows last old s (fastAt last F decided truths y closer₁) new r) i h) in
       rw (subst (λ y. ltZ y (pos 0) ≡ false) e t) (grows-same last F (fast last F todo so-far facts (after (weight near) q)) (fast last F todo so-far facts (weight closer))
       (fast-table last F todo so-far facts (after (weight near) q) (weight closer) same (all-drop (Ends last F) decided (places (F .program)) all-ends)) old s new r h₂)
@@ -148,7 +148,7 @@ module _ (last : ℕ) (F : Formula) (kinds left right : List ℕ) (most : List �
       todo = drop decided (places (F .program))
 
       same : SameBelow last F (after (weight near) q) (weight closer)
-      same u v hu hv = sym (tabled-at (relax (weight near) from to k) mostVertices (suc last) near (omega (arith, ready .few)) sz u v hu hv)
+      same u v hu hv = sym (tabled-at (relax (weight near) from to k) mostVertices (suc last) near (omega (arith, ready .few)) (ready .table) u v hu hv)
 
       all-ends : Every (Ends last F) (places (F .program))
       all-ends = all-of (Ends last F) (places (F .program)) nowhere (λ i l. let m : i < length most = omega (arith, lent-most (F .program) kinds left right most lent) in rw (← lent-place (F .program) kinds left right most lent i) (ready .facts i m true .to-is, ready .facts i m true .from-is))

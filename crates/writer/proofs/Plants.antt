@@ -123,7 +123,8 @@ module _ (F : Formula) (kinds : List ℕ) (n : ℕ) (left right : List ℕ) (mos
       as-long = (omega (arith, lengths .0, lengths .2), omega (arith, lengths .1, lengths .2), omega (arith, lengths .2, c .few-is, p .few-places));
       facts = place-facts;
       closed = rw e (s .closed);
-      kept = rw e (record { ceiling = start-far mostVertices (F .ranges); floor = bounds-start mostVertices (F .ranges) (p .ranges-small) .floor });
+      kept = rw e (record { sized = bounds-start mostVertices (F .ranges) (p .ranges-small) .sized; ceiling = start-far mostVertices (F .ranges); floor = bounds-start mostVertices (F .ranges) (p .ranges-small) .floor });
+      table = s .table;
     }
 
     ends : (ps : List Place) → Every (SmallPlace (F .ranges)) ps → Every (Ends (length (F .ranges)) F) ps

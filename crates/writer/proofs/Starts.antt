@@ -204,6 +204,7 @@ module _ (count : ℕ) (present : List Bool) (lo hi : List ℤ) (s : Ranged coun
 
   pub going-end : (v : ℕ) (near : Grid) → Going v near → count ≤ v → NearStarts count (Left 1) near
   going-end v near g h = record {
+    table = g .table;
     closed = subst (λ x. Closure count (weight x) (weight near)) (sym (left-end (g .facts) v h) ∙ g .rest) (g .closed);
     same = λ u w hu hw. g .same u w hu hw ∙ ap (λ f. f u w) (sym (near-end (g .sums) v h) ∙ g .sums-rest);
   }

@@ -7,7 +7,7 @@ use lib.ListN.{length, getD, take, drop}
 use lib.IntN.{ℤ, pos}
 use lib.Signed.{_≤ℤ_}
 use Rattle.ints.proofs.Bridge.{up, dn}
-use Rattle.grid.specs.Grid.{Grid, weight, tighten, far, least-weight}
+use Rattle.grid.specs.Grid.{Grid, weight, tighten, far, least-weight, Sized}
 use Rattle.grid.specs.Near.{Closure}
 use Rattle.formula.specs.Program.{Place, places}
 use Rattle.formula.specs.Cells.{bit}
@@ -58,6 +58,7 @@ pub record Fact (last from to : ℕ) (k : ℤ) : Type 0 where
 
 -- no weight is above a missing edge's, none below the least
 pub record Kept (g : Grid) : Type 0 where
+  pub sized : Sized 17 g
   pub ceiling : (u v : ℕ) → weight g u v ≤ℤ far
   pub floor : (u v : ℕ) → dn (weight g u v) ≤ least-weight
 
@@ -68,3 +69,4 @@ pub record Ready (last : ℕ) (left right : List ℕ) (most : List ℤ) (g near 
   pub facts : (i : ℕ) → i < length most → (d : Bool) → Fact last (taken (placeAt left right most i) d .right) (taken (placeAt left right most i) d .left) (taken (placeAt left right most i) d .most)
   pub closed : Closure (suc last) (weight g) (weight near)
   pub kept : Kept g
+  pub table : Sized 17 near

@@ -11,7 +11,7 @@ use Rattle.ints.proofs.Bridge.{up, dn}
 use Rattle.meaning.specs.Contents.{Range}
 use Rattle.formula.specs.Vertices.{Ranges}
 use Rattle.formula.proofs.Sizes.{billion}
-use Rattle.grid.specs.Grid.{Grid, weight}
+use Rattle.grid.specs.Grid.{Grid, weight, Sized}
 use Rattle.grid.specs.Near.{Closure}
 use Rattle.sheet.specs.Facts.{start}
 use Rattle.sheet.specs.Fast.{nearStart}
@@ -35,5 +35,6 @@ pub record Ranged (count : ℕ) (present : List Bool) (lo hi : List ℤ) : Type 
 
 -- the closure of the ranges' facts, in a table: it is one, and its entries are the definition's
 pub record NearStarts (count : ℕ) (rs : Ranges) (near : Grid) : Type 0 where
+  pub table : Sized 17 near
   pub closed : Closure count (weight (start 17 rs)) (weight near)
   pub same : (u v : ℕ) → u < count → v < count → weight near u v ≡ nearStart rs u v

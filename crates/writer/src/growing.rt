@@ -18,7 +18,7 @@ ghost use Rattle.formula.specs.Formulas.{Formula};
 ghost use Rattle.formula.specs.Known.{knownKinds};
 ghost use Rattle.formula.specs.Cells.{threeOf};
 ghost use Rattle.sheet.specs.Tree.{bytesOf, cycle};
-ghost use Rattle.grid.specs.Grid.{weight, row};
+ghost use Rattle.grid.specs.Grid.{weight, row, tighten};
 ghost use Rattle.grid.specs.Search.{search};
 ghost use Rattle.sheet.specs.Checking.{Lent};
 ghost use Rattle.sheet.specs.Fast.{strainedNode, cycleOf};
@@ -61,38 +61,50 @@ fn known_so_far(kinds: &[u8], truths: [u8; 120], decided: usize) -> Truth
     known(kinds, &truths[..decided])
 }
 
-// Node 2, by the search, which is left out where a byte found no room: nothing more would be stored.
-fn put_search(room: &mut [u8], spot: Spot, g: [[i64; 17]; 17], last: usize) -> Spot
-    requires { ⌜ (last < 17) × Kept g ⌝ }
-    ensures { λ r. ⌜ filling (now (room .exit)) r ≡ puts (filling (now (room .entry)) spot) (bytesOf (cycle (cycleOf (search (weight g) last)))) ⌝ }
+// Node 2, by the search among the facts and one more, an edge of weight k.
+fn put_search(
+    room: &mut [u8],
+    spot: Spot,
+    g: &[[i64; 17]; 17],
+    last: usize,
+    from: usize,
+    to: usize,
+    k: i64,
+) -> Spot
+    requires { ⌜ (last < 17) × Kept (now g) × Fact last from to k ⌝ }
+    ensures { λ r. ⌜ filling (now (room .exit)) r ≡ puts (filling (now (room .entry)) spot) (bytesOf (cycle (cycleOf (search (weight (tighten (now (g .entry)) from to k)) last)))) ⌝ }
 {
-    let over = spot.over;
-    if over {
-        return spot;
-    }
-    let c = search(g, last + 1);
+    let facts = tighten(*g, from, to, k);
+    let c = search(&facts, last + 1);
     let vertices = c.vertices;
     put_cycle(room, spot, vertices, c.count)
 }
 
-// A node whose facts close a negative cycle.
+// A node whose last fact closes a negative cycle. Where a byte found no room there is nothing to do: nothing more would be stored.
 fn cut(
     room: &mut [u8],
     spot: Spot,
     kinds: &[u8],
     truths: [u8; 120],
     decided: usize,
-    g: [[i64; 17]; 17],
+    g: &[[i64; 17]; 17],
     last: usize,
+    from: usize,
+    to: usize,
+    k: i64,
 ) -> Spot
-    requires { ⌜ (length (now kinds) ≤ 320) × (decided ≤ 120) × (last < 17) × Kept g ⌝ }
-    ensures { λ r. ⌜ filling (now (room .exit)) r ≡ puts (filling (now (room .entry)) spot) (cutBytes (strainedNode (knownKinds (now (kinds .entry)) (decisions truths decided)) (search (weight g) last))) ⌝ }
+    requires { ⌜ (length (now kinds) ≤ 320) × (decided ≤ 120) × (last < 17) × Kept (now g) × Fact last from to k ⌝ }
+    ensures { λ r. ⌜ filling (now (room .exit)) r ≡ puts (filling (now (room .entry)) spot) (cutBytes (strainedNode (knownKinds (now (kinds .entry)) (decisions truths decided)) (search (weight (tighten (now (g .entry)) from to k)) last))) ⌝ }
 {
-    let k = known_so_far(kinds, truths, decided);
-    match k {
+    let over = spot.over;
+    if over {
+        return spot;
+    }
+    let t = known_so_far(kinds, truths, decided);
+    match t {
         Truth::Fails => put(room, spot, 1),
-        Truth::Passes => put_search(room, spot, g, last),
-        Truth::Open => put_search(room, spot, g, last),
+        Truth::Passes => put_search(room, spot, g, last, from, to, k),
+        Truth::Open => put_search(room, spot, g, last, from, to, k),
     }
 }
 
@@ -107,8 +119,8 @@ fn with_truth(truths: [u8; 120], at: usize, d: u8) -> [u8; 120]
 }
 
 // The formula is open: the closure's first row is the greatest solution.
-fn open(spot: Spot, near: [[i64; 17]; 17]) -> Grown
-    ensures { λ r. ⌜ (r .open ≡ true) × (r .values ≡ row near 0) ⌝ }
+fn open(spot: Spot, near: &[[i64; 17]; 17]) -> Grown
+    ensures { λ r. ⌜ (r .open ≡ true) × (r .values ≡ row (now (near .entry)) 0) ⌝ }
 {
     Grown {
         open: true,
@@ -128,22 +140,22 @@ fn side(
     last: usize,
     undecided: usize,
     truths: [u8; 120],
-    g: [[i64; 17]; 17],
-    near: [[i64; 17]; 17],
+    g: &[[i64; 17]; 17],
+    near: &[[i64; 17]; 17],
     from: usize,
     to: usize,
     k: i64,
 ) -> Grown
-    requires { ⌜ (length (now kinds) ≤ 320) × (undecided ≤ length (now most)) × Fact last from to k × Ready last (now left) (now right) (now most) g near ⌝ }
-    ensures { λ r. ⌜ ((F : Formula) → Lent (F .program) (now (kinds .entry)) (now (left .entry)) (now (right .entry)) (now (most .entry)) → Grows last (now (room .entry)) spot (sideBy last F (length (now (most .entry)) - undecided) truths g near from to k) (now (room .exit)) r) ⌝ }
+    requires { ⌜ (length (now kinds) ≤ 320) × (undecided ≤ length (now most)) × Fact last from to k × Ready last (now left) (now right) (now most) (now g) (now near) ⌝ }
+    ensures { λ r. ⌜ ((F : Formula) → Lent (F .program) (now (kinds .entry)) (now (left .entry)) (now (right .entry)) (now (most .entry)) → Grows last (now (room .entry)) spot (sideBy last F (length (now (most .entry)) - undecided) truths (now (g .entry)) (now (near .entry)) from to k) (now (room .exit)) r) ⌝ }
 {
-    let facts = tighten(g, from, to, k);
     let round = edge(near, to, from);
     if round + k < 0 {
         let decided = most.len() - undecided;
-        return shut(cut(room, spot, kinds, truths, decided, facts, last));
+        return shut(cut(room, spot, kinds, truths, decided, g, last, from, to, k));
     }
-    let closer = relax(near, last + 1, from, to, k);
+    let facts = tighten(*g, from, to, k);
+    let closer = relax(*near, last + 1, from, to, k);
     grow(
         room,
         spot,
@@ -154,8 +166,8 @@ fn side(
         last,
         undecided,
         truths,
-        facts,
-        closer,
+        &facts,
+        &closer,
     )
 }
 
@@ -170,11 +182,11 @@ pub fn grow(
     last: usize,
     undecided: usize,
     truths: [u8; 120],
-    g: [[i64; 17]; 17],
-    near: [[i64; 17]; 17],
+    g: &[[i64; 17]; 17],
+    near: &[[i64; 17]; 17],
 ) -> Grown
-    requires { ⌜ (length (now kinds) ≤ 320) × (undecided ≤ length (now most)) × Ready last (now left) (now right) (now most) g near ⌝ }
-    ensures { λ r. ⌜ ((F : Formula) → Lent (F .program) (now (kinds .entry)) (now (left .entry)) (now (right .entry)) (now (most .entry)) → Grows last (now (room .entry)) spot (fastAt last F (length (now (most .entry)) - undecided) truths g near) (now (room .exit)) r) ⌝ }
+    requires { ⌜ (length (now kinds) ≤ 320) × (undecided ≤ length (now most)) × Ready last (now left) (now right) (now most) (now g) (now near) ⌝ }
+    ensures { λ r. ⌜ ((F : Formula) → Lent (F .program) (now (kinds .entry)) (now (left .entry)) (now (right .entry)) (now (most .entry)) → Grows last (now (room .entry)) spot (fastAt last F (length (now (most .entry)) - undecided) truths (now (g .entry)) (now (near .entry))) (now (room .exit)) r) ⌝ }
 {
     let decided = most.len() - undecided;
     let k = known_so_far(kinds, truths, decided);

@@ -44,8 +44,8 @@ pub fn plant(
         count - 1,
         few,
         [0; 120],
-        facts,
-        near,
+        &facts,
+        &near,
     )
 }
 

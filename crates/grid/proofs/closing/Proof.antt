@@ -10,18 +10,16 @@ use mir.Val.{SFits, toZ, ofZ}
 use mir.Facts.{toZ-ofZ}
 use Rattle.meaning.specs.Limits.{mostVertices}
 use Rattle.grid.specs.Grid.{row, weight}
-use Rattle.grid.proofs.Rows.{read, sized}
+use Rattle.grid.proofs.Rows.{read}
 use Rattle.grid.proofs.Round.{below-at, Part, part-first, part-next, part-exact, part-last}
 use Rattle.grid.proofs.closing.Statement.{statement}
 use Rattle.grid.proofs.closing.Tie as tie
-use Rattle.grid.proofs.closing.Reads as reads
-use Rattle.grid.proofs.closing.Lts as lts
 
 abbrev Inv-loop : tie.InvT-loop
-Inv-loop vertices g n first at₀ sum₀ i₀ at sum i = (1 ≤ i) × (i ≤ n) × Part mostVertices g vertices i at (toZ w64 sum)
+Inv-loop g vertices n first at₀ sum₀ i₀ at sum i = (1 ≤ i) × (i ≤ n) × Part mostVertices g vertices i at (toZ w64 sum)
 
 abbrev μ-loop : tie.MeasureT-loop
-μ-loop vertices g n first at₀ sum₀ i₀ at sum i = n - i
+μ-loop g vertices n first at₀ sum₀ i₀ at sum i = n - i
 
 shared-slice-read-first : tie.Need-shared-slice-read-first Inv-loop μ-loop
 shared-slice-read-first c = search needs
@@ -39,7 +37,7 @@ cast-first c = omega (arith, first-below c)
 loop-holds : tie.Need-loop-holds Inv-loop μ-loop
 loop-holds c =
     let s = c .before in
-    (search needs, s .pre .0 .0, part-first mostVertices (s .args .t1) (s .args .vertices .now) (s .pre .0 .2) (s .pre .1) (s .pre .0 .0))
+    (search needs, s .pre .0 .0, part-first mostVertices (now (s .args .g)) (s .args .vertices .now) (s .pre .0 .2) (s .pre .1 .1) (s .pre .0 .0))
 
 shared-slice-read-next : tie.Need-shared-slice-read-next Inv-loop μ-loop
 shared-slice-read-next c = search needs
@@ -63,23 +61,23 @@ index-2-sum c = omega (arith, next-below c)
 added : (c : tie.After-sum Inv-loop μ-loop) →
     let l = c .before .before .before .loop in
     let a = c .before .before .before .before .before .args in
-    toZ w64 (l .sum) +ℤ toZ w64 (ofZ w64 (getD (row (a .t1) (l .at)) (getD (a .vertices .now) (l .i) 0) (pos 0)))
-    ≡ toZ w64 (l .sum) +ℤ weight (a .t1) (l .at) (getD (a .vertices .now) (l .i) 0)
+    toZ w64 (l .sum) +ℤ toZ w64 (ofZ w64 (getD (row (now (a .g)) (l .at)) (getD (a .vertices .now) (l .i) 0) (pos 0)))
+    ≡ toZ w64 (l .sum) +ℤ weight (now (a .g)) (l .at) (getD (a .vertices .now) (l .i) 0)
 added c =
     let l = c .before .before .before .loop in
     let s = c .before .before .before .before .before in
     ap (λ (z : ℤ). toZ w64 (l .sum) +ℤ z)
     (toZ-ofZ (record { sfits = c .sum .given })
-    ∙ read mostVertices (s .args .t1) (l .at) _ (sized mostVertices (s .args .t1) _ (s .good .0)) (l .inv .2 .here) (next-below (c .before)))
+    ∙ read mostVertices (now (s .args .g)) (l .at) _ (s .pre .1 .0) (l .inv .2 .here) (next-below (c .before)))
 
 exact : (c : tie.After-sum Inv-loop μ-loop) →
     let l = c .before .before .before .loop in
     let a = c .before .before .before .before .before .args in
-    SFits w64 (toZ w64 (l .sum) +ℤ weight (a .t1) (l .at) (getD (a .vertices .now) (l .i) 0))
+    SFits w64 (toZ w64 (l .sum) +ℤ weight (now (a .g)) (l .at) (getD (a .vertices .now) (l .i) 0))
 exact c =
     let l = c .before .before .before .loop in
     let s = c .before .before .before .before .before in
-    part-exact mostVertices (s .args .t1) (s .args .vertices .now) (s .pre .0 .2) (s .pre .1) (l .i) (l .at) _ _ (l .inv .2) (omega (arith, s .pre .0, c .before .before .loop-test .taken)) (next-below (c .before))
+    part-exact mostVertices (now (s .args .g)) (s .args .vertices .now) (s .pre .0 .2) (s .pre .1 .1) (l .i) (l .at) _ _ (l .inv .2) (omega (arith, s .pre .0, c .before .before .loop-test .taken)) (next-below (c .before))
 
 add-sum : tie.Need-add-sum Inv-loop μ-loop
 add-sum c = rw (added c) (exact c)
@@ -96,7 +94,7 @@ loop-again c =
     let s = c .before .before .before .before .before in (
       search needs,
       omega (arith, c .before .before .loop-test .taken),
-      rw (added c, toZ-ofZ (exact c)) (part-next mostVertices (s .args .t1) (s .args .vertices .now) (s .pre .0 .2) (s .pre .1) (l .i) (l .at) (toZ w64 (l .sum)) (l .inv .2) (c .before .before .loop-test .taken)),
+      rw (added c, toZ-ofZ (exact c)) (part-next mostVertices (now (s .args .g)) (s .args .vertices .now) (s .pre .0 .2) (s .pre .1 .1) (l .i) (l .at) (toZ w64 (l .sum)) (l .inv .2) (c .before .before .loop-test .taken)),
     )
 
 mul-result : tie.Need-mul-result Inv-loop μ-loop
@@ -115,23 +113,23 @@ index-2-result c = omega (arith, first-below (c .before .before))
 last : (c : tie.After-result Inv-loop μ-loop) →
     let l = c .before .before .loop in
     let a = c .before .before .before .before .args in
-    toZ w64 (l .sum) +ℤ toZ w64 (ofZ w64 (getD (row (a .t1) (l .at)) (getD (a .vertices .now) 0 0) (pos 0)))
-    ≡ toZ w64 (l .sum) +ℤ weight (a .t1) (l .at) (getD (a .vertices .now) 0 0)
+    toZ w64 (l .sum) +ℤ toZ w64 (ofZ w64 (getD (row (now (a .g)) (l .at)) (getD (a .vertices .now) 0 0) (pos 0)))
+    ≡ toZ w64 (l .sum) +ℤ weight (now (a .g)) (l .at) (getD (a .vertices .now) 0 0)
 last c =
     let l = c .before .before .loop in
     let s = c .before .before .before .before in
     ap (λ (z : ℤ). toZ w64 (l .sum) +ℤ z)
     (toZ-ofZ (record { sfits = c .result .given })
-    ∙ read mostVertices (s .args .t1) (l .at) _ (sized mostVertices (s .args .t1) _ (s .good .0)) (l .inv .2 .here) (first-below (c .before .before .before)))
+    ∙ read mostVertices (now (s .args .g)) (l .at) _ (s .pre .1 .0) (l .inv .2 .here) (first-below (c .before .before .before)))
 
 exact-last : (c : tie.After-result Inv-loop μ-loop) →
     let l = c .before .before .loop in
     let a = c .before .before .before .before .args in
-    SFits w64 (toZ w64 (l .sum) +ℤ weight (a .t1) (l .at) (getD (a .vertices .now) 0 0))
+    SFits w64 (toZ w64 (l .sum) +ℤ weight (now (a .g)) (l .at) (getD (a .vertices .now) 0 0))
 exact-last c =
     let l = c .before .before .loop in
     let s = c .before .before .before .before in
-    part-exact mostVertices (s .args .t1) (s .args .vertices .now) (s .pre .0 .2) (s .pre .1) (l .i) (l .at) _ _ (l .inv .2) (omega (arith, s .pre .0)) (first-below (c .before .before .before))
+    part-exact mostVertices (now (s .args .g)) (s .args .vertices .now) (s .pre .0 .2) (s .pre .1 .1) (l .i) (l .at) _ _ (l .inv .2) (omega (arith, s .pre .0)) (first-below (c .before .before .before))
 
 add-result : tie.Need-add-result Inv-loop μ-loop
 add-result c = rw (last c) (exact-last c)
@@ -141,7 +139,7 @@ returns c =
     let l = c .before .before .loop in
     let s = c .before .before .before .before in
     let all : l .i ≡ length (s .args .vertices .now) = omega arith in
-    rw (last c, toZ-ofZ (exact-last c)) (part-last mostVertices (s .args .t1) (s .args .vertices .now) (s .pre .0 .2) (s .pre .1) (l .at) (toZ w64 (l .sum)) (rw all at (l .inv .2)))
+    rw (last c, toZ-ofZ (exact-last c)) (part-last mostVertices (now (s .args .g)) (s .args .vertices .now) (s .pre .0 .2) (s .pre .1 .1) (l .at) (toZ w64 (l .sum)) (rw all at (l .inv .2)))
 
 pub closing-spec : {M : Type 1} → statement M
 closing-spec =

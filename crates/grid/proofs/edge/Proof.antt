@@ -1,12 +1,11 @@
 use mathlib.Core.Path.{_∙_}
+use denote.Ref.{now}
 use mir.Facts.{toZ-ofZ}
 use Rattle.meaning.specs.Limits.{mostVertices}
-use Rattle.grid.proofs.Rows.{read, sized}
+use Rattle.grid.proofs.Rows.{read}
 use borrow.Author.Needs.{needs}
 use Rattle.grid.proofs.edge.Statement.{statement}
 use Rattle.grid.proofs.edge.Tie as tie
-use Rattle.grid.proofs.edge.Reads as reads
-use Rattle.grid.proofs.edge.Lts as lts
 
 mul-result : tie.Need-mul-result
 mul-result c = search needs
@@ -23,7 +22,7 @@ index-2-result c = search needs
 returns : tie.Need-returns
 returns c =
     let a = c .before .args in
-    toZ-ofZ (record { sfits = c .result .given }) ∙ read mostVertices (a .t1) (a .from) (a .to) (sized mostVertices (a .t1) _ (c .before .good .0)) (c .before .pre .0) (c .before .pre .1)
+    toZ-ofZ (record { sfits = c .result .given }) ∙ read mostVertices (now (a .g)) (a .from) (a .to) (c .before .pre .2) (c .before .pre .0) (c .before .pre .1)
 
 pub edge-spec : {M : Type 1} → statement M
 edge-spec = tie.close (tie.spec mul-result mul-result-2 index-1-result index-2-result returns)

@@ -2,6 +2,7 @@ use mathlib.Core.Path.{_≡_, refl, _∙_}
 use Prim.Native.Nat.{ℕ, suc, _-_, _≤_, _<_}
 use native.Mathlib.Omega.{arith}
 use borrow.Author.Needs.{needs}
+use denote.Ref.{now}
 use lib.IntN.{pos}
 use lib.ListN.{getD}
 use mir.Syntax.{w64}
@@ -10,31 +11,31 @@ use mir.Facts.{toZ-ofZ}
 use Rattle.meaning.specs.Limits.{mostVertices}
 use Rattle.grid.specs.Grid.{row, weight}
 use Rattle.grid.specs.Search.{best}
-use Rattle.grid.proofs.Rows.{read, sized}
+use Rattle.grid.proofs.Rows.{read}
 use Rattle.grid.proofs.Kept.{Sums, sums-first, sums-next, sums-wide}
 use Rattle.grid.proofs.Firsts.{Clear, clear-none, clear-more, counts-more, opens-none, opens-some}
 use Rattle.grid.proofs.shortest.Statement.{statement}
 use Rattle.grid.proofs.shortest.Tie as tie
 
 abbrev Inv-loop : tie.InvT-loop
-Inv-loop n g sums count₀ start₀ k s₀ count start s = (s ≤ n) × (count ≡ 0) × Clear (weight g) (n - 1) k s
+Inv-loop g n sums count₀ start₀ k s₀ count start s = (s ≤ n) × (count ≡ 0) × Clear (weight g) (n - 1) k s
 
 abbrev μ-loop : tie.MeasureT-loop
-μ-loop n g sums count₀ start₀ k s₀ count start s = n - s
+μ-loop g n sums count₀ start₀ k s₀ count start s = n - s
 
 abbrev Inv-search : tie.InvT-search
-Inv-search n g sums₀ count₀ start₀ k₀ sums count start k = (k ≤ n) × (count ≡ 0) × Sums g n k sums × ((j : ℕ) → j < k → Clear (weight g) (n - 1) j n)
+Inv-search g n sums₀ count₀ start₀ k₀ sums count start k = (k ≤ n) × (count ≡ 0) × Sums g n k sums × ((j : ℕ) → j < k → Clear (weight g) (n - 1) j n)
 
 abbrev μ-search : tie.MeasureT-search
-μ-search n g sums₀ count₀ start₀ k₀ sums count start k = n - k
+μ-search g n sums₀ count₀ start₀ k₀ sums count start k = n - k
 
 single-requires : tie.Need-single-requires Inv-loop μ-loop Inv-search μ-search
-single-requires c κs = c .pre .0 .1
+single-requires c κs = (c .pre .0 .1, c .pre .1 .0)
 
 search-holds : tie.Need-search-holds Inv-loop μ-loop Inv-search μ-search
 search-holds c =
     let z = c .before in
-    (search needs, refl, sums-first (z .args .t1) (z .args .n) (z .pre .0) (z .pre .1) (sized mostVertices (z .args .t1) _ (z .good .0)) (c .single .result) (c .single .ensures), λ j h. absurd (omega arith))
+    (search needs, refl, sums-first (now (z .args .g)) (z .args .n) (z .pre .0) (z .pre .1 .1) (z .pre .1 .0) (c .single .result) (c .single .ensures), λ j h. absurd (omega arith))
 
 loop-holds : tie.Need-loop-holds Inv-loop μ-loop Inv-search μ-search
 loop-holds c = (search needs, c .before .search .inv .1, clear-none _ _ _)
@@ -59,7 +60,7 @@ closing : (c : tie.After-if12 Inv-loop μ-loop Inv-search μ-search) →
     let l = c .before .before .loop in
     let o = c .before .before .before .before in
     let a = o .before .before .args in
-    getD (row (o .search .sums) (l .s)) (l .s) (pos 0) ≡ best (weight (a .t1)) (a .n - 1) (o .search .k) (l .s) (l .s)
+    getD (row (o .search .sums) (l .s)) (l .s) (pos 0) ≡ best (weight (now (a .g))) (a .n - 1) (o .search .k) (l .s) (l .s)
 closing c =
     let l = c .before .before .loop in
     let o = c .before .before .before .before in
@@ -86,7 +87,7 @@ further-requires : tie.Need-further-requires Inv-loop μ-loop Inv-search μ-sear
 further-requires c κs =
     let o = c .before .before .before .before in
     let z = o .before .before in
-    (z .pre .0, ((sized mostVertices (z .args .t1) _ (z .good .0), z .pre .1), sums-wide (z .args .t1) (z .args .n) (z .pre .0) (z .pre .1) (o .search .k) (o .search .sums) (o .search .inv .2) (omega (arith, z .pre .0))))
+    (z .pre .0, (z .pre .1, (o .search .inv .2 .sized, sums-wide (now (z .args .g)) (z .args .n) (z .pre .0) (z .pre .1 .1) (o .search .k) (o .search .sums) (o .search .inv .2) (omega (arith, z .pre .0)))))
 
 add-k : tie.Need-add-k Inv-loop μ-loop Inv-search μ-search
 add-k c = search needs
@@ -102,7 +103,7 @@ search-again c =
     let all : a .before .loop .s ≡ z .args .n = omega arith in (
       omega (arith, a .before .before .search-test .taken),
       a .before .loop .inv .1,
-      sums-next (z .args .t1) (z .args .n) (z .pre .0) (z .pre .1) (o .search .k) (o .search .sums) (c .further .result) (o .search .inv .2) (c .further .ensures),
+      sums-next (now (z .args .g)) (z .args .n) (z .pre .0) (z .pre .1 .1) (o .search .k) (o .search .sums) (c .further .result) (o .search .inv .2) (c .further .ensures),
       counts-more _ _ (z .args .n) (o .search .k) (o .search .inv .3) (rw all at (a .before .loop .inv .2)),
     )
 
@@ -111,7 +112,7 @@ returns c =
     let z = c .before .before .before in
     let o = c .before .search in
     let m : suc (z .args .n - 1) ≡ z .args .n = omega (arith, z .pre .0) in
-    rw (o .inv .1) (opens-none (weight (z .args .t1)) (z .args .n - 1) (z .args .n) m (λ j h. o .inv .3 j (omega arith)) (o .start))
+    rw (o .inv .1) (opens-none (weight (now (z .args .g))) (z .args .n - 1) (z .args .n) m (λ j h. o .inv .3 j (omega arith)) (o .start))
 
 returns-2 : tie.Need-returns-2 Inv-loop μ-loop Inv-search μ-search
 returns-2 c =
@@ -119,7 +120,7 @@ returns-2 c =
     let o = l .before .before in
     let z = o .before .before in
     let m : suc (z .args .n - 1) ≡ z .args .n = omega (arith, z .pre .0) in
-    opens-some (weight (z .args .t1)) (z .args .n - 1) (z .args .n) m (o .search .k) (l .loop .s) (l .before .search-test .taken) (c .before .before .loop-test .taken) (o .search .inv .3) (l .loop .inv .2) (rw (closing (c .before)) at (simp (toZ-ofZ, sum-fits (c .before)) at (c .if1 .taken)))
+    opens-some (weight (now (z .args .g))) (z .args .n - 1) (z .args .n) m (o .search .k) (l .loop .s) (l .before .search-test .taken) (c .before .before .loop-test .taken) (o .search .inv .3) (l .loop .inv .2) (rw (closing (c .before)) at (simp (toZ-ofZ, sum-fits (c .before)) at (c .if1 .taken)))
 
 pub shortest-spec : {M : Type 1} → statement M
 shortest-spec =

@@ -1,31 +1,40 @@
-use mathlib.Core.Path.{_≡_, refl}
+use mathlib.Core.Path.{_≡_, refl, ap, _∙_}
+use mathlib.Core.List.{[]}
 use Prim.Native.Nat.{_-_, _≤_}
 use native.Mathlib.Omega.{arith}
 use borrow.Author.Needs.{needs}
-use Rattle.meaning.specs.Limits.{mostVertices}
+use denote.Ref.{now}
+use lib.ListN.{length}
 use Rattle.grid.specs.Grid.{row, weight, filled, tabled}
-use Rattle.grid.proofs.Rows.{filled-more, sized}
+use Rattle.grid.proofs.Rows.{filled-more, filled-out}
 use Rattle.grid.proofs.single.Statement.{statement}
 use Rattle.grid.proofs.single.Tie as tie
 
 abbrev Inv-loop : tie.InvT-loop
-Inv-loop n g h₀ s₀ h s = (s ≤ n) × (h ≡ filled (λ s. filled (λ v. weight g v s) n (row g s)) s g)
+Inv-loop g n h₀ s₀ h s = (s ≤ n) × (h ≡ filled (λ s. filled (λ v. weight g v s) n (row g s)) s g)
 
 abbrev μ-loop : tie.MeasureT-loop
-μ-loop n g h₀ s₀ h s = n - s
+μ-loop g n h₀ s₀ h s = n - s
 
 loop-holds : tie.Need-loop-holds Inv-loop μ-loop
 unfolding filled
 loop-holds c = (search needs, refl)
 
+mul-column : tie.Need-mul-column Inv-loop μ-loop
+mul-column c = search needs
+
+index-1-column : tie.Need-index-1-column Inv-loop μ-loop
+index-1-column c = search needs
+
+-- the row that is lent is still the grid's
+as-it-was : (c : tie.In-loop Inv-loop μ-loop) → let l = c .before .loop in row (l .h) (l .s) ≡ row (now (c .before .before .before .args .g)) (l .s)
+as-it-was c = let l = c .before .loop in ap (λ h. row h (l .s)) (l .inv .1) ∙ filled-out _ (l .s) (now (c .before .before .before .args .g)) (l .s) [] (omega arith)
+
 column-requires : tie.Need-column-requires Inv-loop μ-loop
-column-requires c κs = let s = c .before .before .before in (s .pre, c .before .loop-test .taken, sized mostVertices (s .args .t1) _ (s .good .0))
-
-mul-h : tie.Need-mul-h Inv-loop μ-loop
-mul-h c = search needs
-
-array-set-from-h : tie.Need-array-set-from-h Inv-loop μ-loop
-array-set-from-h c = search needs
+column-requires c κs =
+    let i = c .before in
+    let s = i .before .before .before in
+    (s .pre .0, i .loop-test .taken, omega (arith, ap length (as-it-was i), s .pre .1 .columns (i .before .loop .s) (omega (arith, s .pre .0, i .loop-test .taken)), s .pre .0), s .pre .1)
 
 add-s : tie.Need-add-s Inv-loop μ-loop
 add-s c = search needs
@@ -35,14 +44,15 @@ loop-less c = search needs
 
 loop-again : tie.Need-loop-again Inv-loop μ-loop
 loop-again c =
-    let l = c .before .before .before .loop in
-    let z = c .before .before .before .before in
-    (omega (arith, c .before .before .loop-test .taken), filled-more _ (l .s) (z .args .t1) (l .h) _ (l .inv .1) (c .column .ensures))
+    let i = c .before .before in
+    let l = i .before .loop in
+    let s = i .before .before .before in
+    (omega (arith, i .loop-test .taken), filled-more _ (l .s) (now (s .args .g)) (l .h) _ (l .inv .1) (c .column .ensures ∙ ap (filled (λ v. weight (now (s .args .g)) v (l .s)) (s .args .n)) (as-it-was i)))
 
 returns : tie.Need-returns Inv-loop μ-loop
 unfolding tabled
 returns c =
-    let all : c .before .loop .s ≡ c .before .before .args .n = omega arith in
+    let all : c .before .loop .s ≡ c .before .before .before .args .n = omega arith in
     rw all at (c .before .loop .inv .1)
 
 pub single-spec : {M : Type 1} → statement M
@@ -52,9 +62,9 @@ single-spec =
     Inv-loop
     μ-loop
     loop-holds
+    mul-column
+    index-1-column
     column-requires
-    mul-h
-    array-set-from-h
     add-s
     loop-less
     loop-again

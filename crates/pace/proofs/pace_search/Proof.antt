@@ -2,6 +2,7 @@ use Prim.Native.Nat.{_*_, _-_, _≤_}
 use borrow.Author.Needs.{needs}
 use mir.Facts.{toZ-ofZ}
 use Rattle.meaning.specs.Limits.{mostVertices}
+use Rattle.grid.proofs.Grids.{tighten-sized}
 use Rattle.pace.proofs.Within.{tighten-within, fewer}
 use Rattle.pace.proofs.pace_search.Statement.{statement}
 use Rattle.pace.proofs.pace_search.Tie as tie
@@ -32,8 +33,14 @@ tighten-requires c κs = search needs
 
 search-requires : tie.Need-search-requires Inv-loop μ-loop
 search-requires c κs =
-    let s = c .before .before .before .before in
-    (search needs, fewer mostVertices _ _ (s .before .several .ensures .1) (rw (c .tighten .ensures) (tighten-within mostVertices _ _ _ _ (s .line .ensures) (rw (toZ-ofZ (record { sfits = c .before .turning .ok })) (c .before .turning .ensures)))))
+    let e = c .before in
+    let s = e .before .before .before .before in (
+      search needs,
+      (
+        rw (e .tighten .ensures) (tighten-sized mostVertices _ _ _ _ (s .line .ensures .0)),
+        fewer mostVertices _ _ (s .before .several .ensures .1) (rw (e .tighten .ensures) (tighten-within mostVertices _ _ _ _ (s .line .ensures .1) (rw (toZ-ofZ (record { sfits = e .before .turning .ok })) (e .before .turning .ensures)))),
+      ),
+    )
 
 add-edges : tie.Need-add-edges Inv-loop μ-loop
 add-edges c = search needs

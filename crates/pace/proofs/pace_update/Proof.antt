@@ -28,7 +28,7 @@ turning-requires : tie.Need-turning-requires Inv-loop μ-loop
 turning-requires c κs = search needs
 
 relax-requires : tie.Need-relax-requires Inv-loop μ-loop
-relax-requires c κs = let s = c .before .before .before in (search needs, (rw (toZ-ofZ (record { sfits = c .turning .ok })) (c .turning .ensures), fewer mostVertices _ _ (s .before .several .ensures .1) (s .line .ensures)))
+relax-requires c κs = let s = c .before .before .before in (search needs, (rw (toZ-ofZ (record { sfits = c .turning .ok })) (c .turning .ensures), fewer mostVertices _ _ (s .before .several .ensures .1) (s .line .ensures .1)))
 
 sub-below : tie.Need-sub-below Inv-loop μ-loop
 sub-below c = search needs

@@ -3,6 +3,8 @@ use mathlib.Core.Path.{_≡_, sym}
 use native.Mathlib.Omega.{arith}
 use lib.ListN.{length, take}
 use lib.Seq.{length-take-le}
+use Rattle.meaning.specs.Limits.{mostVertices}
+use Rattle.grid.proofs.Rows.{sized}
 use borrow.Author.Needs.{needs}
 use Rattle.sheet.proofs.compiled.lent_tree.Statement.{statement}
 use Rattle.sheet.proofs.compiled.lent_tree.Tie as tie
@@ -36,11 +38,11 @@ slice-aggregate-tree c = search needs
 
 tree-requires : tie.Need-tree-requires
 tree-requires c κs =
-    let s = c .before .before .before .before .before .before in
+    let s = c .before .before .before .before .before .before .before in
     let a = s .args in
     let short : length (take (a .count) (a .t1)) ≡ a .count = length-take-le (a .count) (a .t1) (search needs) in
     let all : length (take (a .places) (a .t3)) ≡ a .places = length-take-le (a .places) (a .t3) (search needs) in
-    (record { short = omega (arith, short, s .pre .0); places = s .pre .2; flags = omega (arith, s .good .1 .1 .1 .1 .1 .1 .0) }, (omega (arith, all), s .pre .3))
+    (record { short = omega (arith, short, s .pre .0); places = s .pre .2; flags = omega (arith, s .good .1 .1 .1 .1 .1 .1 .0) }, (omega (arith, all), sized mostVertices (a .t8) _ (s .good .1 .1 .1 .1 .1 .1 .1 .0), s .pre .3))
 
 returns : tie.Need-returns
 returns c = λ F base lent shows.

@@ -16,7 +16,7 @@ add-from : tie.Need-add-from
 add-from c = search needs
 
 returns : tie.Need-returns
-returns c = λ F base sh. let a = c .before .before .before .args in cycle-end mostVertices F (a .g) (a .part .now) (a .at) base (c .if1 .taken)
+returns c = λ F base sh. let a = c .before .before .before .args in cycle-end mostVertices F (a .g .now) (a .part .now) (a .at) base (c .if1 .taken)
 
 shared-slice-read-count : tie.Need-shared-slice-read-count
 shared-slice-read-count c = search needs
@@ -25,10 +25,10 @@ cast-count : tie.Need-cast-count
 cast-count c = omega (arith, c .shared-slice-known3 .given (c .before .before .before .before .args .at + 1))
 
 returns-2 : tie.Need-returns-2
-returns-2 c = λ F base sh. let a = c .before .before .before .before .before .args in cycle-none mostVertices F (a .g) (a .part .now) (a .at) base (c .before .before .if1 .left) (c .if2 .taken)
+returns-2 c = λ F base sh. let a = c .before .before .before .before .before .args in cycle-none mostVertices F (a .g .now) (a .part .now) (a .at) base (c .before .before .if1 .left) (c .if2 .taken)
 
 returns-3 : tie.Need-returns-3
-returns-3 c = λ F base sh. let a = c .before .before .before .before .before .before .args in cycle-many mostVertices F (a .g) (a .part .now) (a .at) base (c .before .before .before .if1 .left) (c .if3 .taken)
+returns-3 c = λ F base sh. let a = c .before .before .before .before .before .before .args in cycle-many mostVertices F (a .g .now) (a .part .now) (a .at) base (c .before .before .before .if1 .left) (c .if3 .taken)
 
 add-first : tie.Need-add-first
 add-first c = search needs
@@ -82,7 +82,7 @@ returns-4 : tie.Need-returns-4
 returns-4 c = λ F base sh.
     let o = c .before .before .before in
     let a = o .before .before .before .before .before .before .before .before .before .before .args in
-    cycle-shut mostVertices F (a .g) (a .part .now) (a .at) base (o .before .before .before .before .before .before .before .if1 .left) (o .before .before .before .before .before .if2 .left) (o .before .before .before .before .if3 .left) (there o .meaning (F .ranges) (base + (a .at + 1 + 1)) sh) (sym (rw (to-the-end (a .part .now) (a .at + 1 + 1)) at (c .before .below-zero .ensures)) ∙ c .if4 .taken)
+    cycle-shut mostVertices F (a .g .now) (a .part .now) (a .at) base (o .before .before .before .before .before .before .before .if1 .left) (o .before .before .before .before .before .if2 .left) (o .before .before .before .before .if3 .left) (there o .meaning (F .ranges) (base + (a .at + 1 + 1)) sh) (sym (rw (to-the-end (a .part .now) (a .at + 1 + 1)) at (c .before .below-zero .ensures)) ∙ c .if4 .taken)
 
 enum-known-found : tie.Need-enum-known-found
 enum-known-found c = search needs
@@ -96,13 +96,13 @@ returns-5 : tie.Need-returns-5
 returns-5 c = λ F base sh.
     let o = c .before .before .before in
     let a = o .before .before .before .before .before .before .before .before .before .before .args in
-    cycle-open mostVertices F (a .g) (a .part .now) (a .at) base (o .before .before .before .before .before .before .before .if1 .left) (o .before .before .before .before .before .if2 .left) (o .before .before .before .before .if3 .left) (there o .meaning (F .ranges) (base + (a .at + 1 + 1)) sh) (sym (rw (to-the-end (a .part .now) (a .at + 1 + 1)) at (c .before .below-zero .ensures)) ∙ c .if4 .left)
+    cycle-open mostVertices F (a .g .now) (a .part .now) (a .at) base (o .before .before .before .before .before .before .before .if1 .left) (o .before .before .before .before .before .if2 .left) (o .before .before .before .before .if3 .left) (there o .meaning (F .ranges) (base + (a .at + 1 + 1)) sh) (sym (rw (to-the-end (a .part .now) (a .at + 1 + 1)) at (c .before .below-zero .ensures)) ∙ c .if4 .left)
 
 returns-6 : tie.Need-returns-6
 returns-6 c = λ F base sh.
     let o = c .before in
     let a = o .before .before .before .before .before .before .before .before .before .before .args in
-    cycle-lacking mostVertices F (a .g) (a .part .now) (a .at) base (o .before .before .before .before .before .before .before .if1 .left) (o .before .before .before .before .before .if2 .left) (o .before .before .before .before .if3 .left) _ _ (lacks o .meaning (F .ranges) (base + (a .at + 1 + 1)) sh)
+    cycle-lacking mostVertices F (a .g .now) (a .part .now) (a .at) base (o .before .before .before .before .before .before .before .if1 .left) (o .before .before .before .before .before .if2 .left) (o .before .before .before .before .if3 .left) _ _ (lacks o .meaning (F .ranges) (base + (a .at + 1 + 1)) sh)
 
 pub cycle-spec : {M : Type 1} → statement M
 cycle-spec =

@@ -1,24 +1,23 @@
-use mathlib.Core.Path.{refl, sym, ap, ap₂, _∙_, subst}
+use mathlib.Core.Path.{_≡_, refl, sym, ap, ap₂, _∙_, subst}
 use mathlib.Core.Bool.{true, false}
-use Rattle.writer.specs.Growing.{Fact, Kept}
+use Rattle.writer.specs.Growing.{Fact}
 use denote.Ref.{now}
 use mir.Facts.{toZ-ofZ}
 use lib.IntN.{pos, negℤ, _+ℤ_, _-ℤ_}
 use mir.Syntax.{w64}
-use mir.Val.{SFits}
+use mir.Val.{SFits, toZ, ofZ}
 use Rattle.ints.proofs.Bridge.{+law}
 use Rattle.ints.proofs.Machine.{machine}
 use Rattle.grid.specs.Grid.{weight, tighten, tabled}
 use Rattle.grid.specs.Near.{relax}
 use native.Mathlib.Numerals.{add-one}
 use lib.ListN.{length, getD}
-use Rattle.grid.proofs.Rows.{sized}
 use Rattle.formula.specs.Cells.{threeOf}
 use Rattle.writer.proofs.Halves.{grows-false, grows-true, grows-end, branch-first, branch-second, side-cut, side-calm}
-use Rattle.writer.proofs.Growths.{near-within, fact-bounded, fact-fits, kept-next, ready-handed}
+use Rattle.writer.proofs.Growths.{near-within, fact-bounded, fact-fits, ready-handed}
 use borrow.Author.Needs.{needs}
 use native.Mathlib.Omega.{arith}
-use Prim.Native.Nat.{ℕ, _+_, _-_, _<_}
+use Prim.Native.Nat.{ℕ, suc, _+_, _-_, _<_}
 use borrow.Fn.Kinds.{In}
 use borrow.Fn.PlainCycle.{Measures, is, falls, and}
 use Rattle.writer.proofs.growing.grow.Reads as grow
@@ -40,29 +39,29 @@ use Rattle.writer.proofs.room.put.Reads as put-reads
 use Rattle.writer.proofs.growing.+grow+side.{statement}
 use Rattle.writer.proofs.growing.+grow+side.Tie.{close}
 
-abbrev μ-grow : Measures 5 grow-kinds.ps ℕ
+abbrev μ-grow : Measures 7 grow-kinds.ps ℕ
 μ-grow κs a = a .1 .1 .1 .1 .1 .1 .1 .0 + a .1 .1 .1 .1 .1 .1 .1 .0
 
-abbrev μ-side : Measures 5 side-kinds.ps ℕ
+abbrev μ-side : Measures 7 side-kinds.ps ℕ
 μ-side κs a = a .1 .1 .1 .1 .1 .1 .1 .0 + a .1 .1 .1 .1 .1 .1 .1 .0 + 1
 
-abbrev grow-at : ℕ → In 5 grow-kinds.ps
-grow-at t = and 5 grow-kinds.ps (is 5 grow-kinds.ps μ-grow t) grow.Pre
+abbrev grow-at : ℕ → In 7 grow-kinds.ps
+grow-at t = and 7 grow-kinds.ps (is 7 grow-kinds.ps μ-grow t) grow.Pre
 
-abbrev grow-below : ℕ → In 5 grow-kinds.ps
-grow-below t = and 5 grow-kinds.ps (falls 5 grow-kinds.ps _<_ μ-grow t) grow.Pre
+abbrev grow-below : ℕ → In 7 grow-kinds.ps
+grow-below t = and 7 grow-kinds.ps (falls 7 grow-kinds.ps _<_ μ-grow t) grow.Pre
 
-abbrev side-at : ℕ → In 5 side-kinds.ps
-side-at t = and 5 side-kinds.ps (is 5 side-kinds.ps μ-side t) side.Pre
+abbrev side-at : ℕ → In 7 side-kinds.ps
+side-at t = and 7 side-kinds.ps (is 7 side-kinds.ps μ-side t) side.Pre
 
-abbrev side-below : ℕ → In 5 side-kinds.ps
-side-below t = and 5 side-kinds.ps (falls 5 side-kinds.ps _<_ μ-side t) side.Pre
+abbrev side-below : ℕ → In 7 side-kinds.ps
+side-below t = and 7 side-kinds.ps (falls 7 side-kinds.ps _<_ μ-side t) side.Pre
 
 abbrev grow-calls : ℕ → grow-lts.Claims
 grow-calls t = (known-so-far-reads.Asked, known-so-far-reads.Learnt, put-reads.Asked, put-reads.Learnt, shut-reads.Asked, shut-reads.Learnt, open-reads.Asked, open-reads.Learnt, with-truth-reads.Asked, with-truth-reads.Learnt, side-below t, side.Post, negation-reads.Asked, negation-reads.Learnt)
 
 abbrev side-calls : ℕ → side-lts.Claims
-side-calls t = (tighten-reads.Asked, tighten-reads.Learnt, edge-reads.Asked, edge-reads.Learnt, cut-reads.Asked, cut-reads.Learnt, shut-reads.Asked, shut-reads.Learnt, relax-reads.Asked, relax-reads.Learnt, grow-below t, grow.Post)
+side-calls t = (edge-reads.Asked, edge-reads.Learnt, cut-reads.Asked, cut-reads.Learnt, shut-reads.Asked, shut-reads.Learnt, tighten-reads.Asked, tighten-reads.Learnt, relax-reads.Asked, relax-reads.Learnt, grow-below t, grow.Post)
 
 grow-sub-decided : (t : ℕ) → grow-lts.Need-sub-decided (grow-calls t) (grow-at t) grow.Post
 grow-sub-decided t c = search needs
@@ -95,7 +94,7 @@ grow-returns : (t : ℕ) → grow-lts.Need-returns (grow-calls t) (grow-at t) gr
 grow-returns t c =
     let a = c .before .before .before .before .before .before .before .before .before .args in
     let kn = c .before .before .before .before .known-so-far in
-    λ F lent. grows-end (a .last) F (now (a .kinds)) (now (a .left)) (now (a .right)) (now (a .most)) lent (a .truths) (a .g) (a .near) (length (now (a .most)) - a .undecided) (now (a .room)) _ (a .spot) (c .open2 .result) (sym (kn .ensures) ∙ ap threeOf (c .before .before .enum-told3 .given .1)) (omega (arith, c .before .if1 .taken)) (sized 17 (a .near) _ (c .before .before .before .before .before .before .before .before .before .good .1 .1 .1 .1 .1 .1 .1 .1 .1 .1 .0)) (c .before .before .before .before .before .before .before .before .before .pre .1 .2 .few) (c .open2 .ensures .0) (c .open2 .ensures .1) refl
+    λ F lent. grows-end (a .last) F (now (a .kinds)) (now (a .left)) (now (a .right)) (now (a .most)) lent (a .truths) (now (a .g)) (now (a .near)) (length (now (a .most)) - a .undecided) (now (a .room)) _ (a .spot) (c .open2 .result) (sym (kn .ensures) ∙ ap threeOf (c .before .before .enum-told3 .given .1)) (omega (arith, c .before .if1 .taken)) (c .before .before .before .before .before .before .before .before .before .pre .1 .2 .table) (c .before .before .before .before .before .before .before .before .before .pre .1 .2 .few) (c .open2 .ensures .0) (c .open2 .ensures .1) refl
 
 grow-shared-slice-read-a : (t : ℕ) → grow-lts.Need-shared-slice-read-a (grow-calls t) (grow-at t) grow.Post
 grow-shared-slice-read-a t c = search needs
@@ -133,7 +132,7 @@ grow-side-requires t c κs =
     let s = c .before .before .before .before .before .before .before .before .before .before .before .before .before .before .before .before .before in
     let a = s .args in
     let h : length (now (a .most)) - a .undecided < length (now (a .most)) = omega (arith, s .pre .1 .1, c .before .before .before .before .before .before .before .before .before .if1 .left) in
-    let w = fact-fits (a .last) (now (a .left)) (now (a .right)) (now (a .most)) (a .g) (a .near) (s .pre .1 .2) _ _ _ (s .pre .1 .2 .facts (length (now (a .most)) - a .undecided) h true) in
+    let w = fact-fits (a .last) _ _ _ (s .pre .1 .2 .facts (length (now (a .most)) - a .undecided) h true) in
     (omega (arith, s .pre .0, c .before .before .before .before .before .before .before .before .before .if1 .left), (s .pre .1 .0, omega (arith, s .pre .1 .1), subst (λ z. Fact (a .last) (getD (now (a .right)) (length (now (a .most)) - a .undecided) 0) (getD (now (a .left)) (length (now (a .most)) - a .undecided) 0) z) (sym (toZ-ofZ {w = w64} w)) (s .pre .1 .2 .facts (length (now (a .most)) - a .undecided) h true), s .pre .1 .2))
 
 grow-same-length : (t : ℕ) → grow-lts.Need-same-length (grow-calls t) (grow-at t) grow.Post
@@ -148,9 +147,9 @@ grow-returns-2 t c =
     let el = c .before .before .before .before .before .before .before .before .before .before .before .before .before in
     let el3 = c .before .before .before .before .before .before .before .before in
     let h : length (now (a .most)) - a .undecided < length (now (a .most)) = omega (arith, s .pre .1 .1, el .if1 .left) in
-    let w = fact-fits (a .last) (now (a .left)) (now (a .right)) (now (a .most)) (a .g) (a .near) (s .pre .1 .2) _ _ _ (s .pre .1 .2 .facts (length (now (a .most)) - a .undecided) h true) in
+    let w = fact-fits (a .last) _ _ _ (s .pre .1 .2 .facts (length (now (a .most)) - a .undecided) h true) in
     let tr : length (now (a .most)) - a .undecided < length (a .truths) = omega (arith, s .pre .1 .2 .as-long .2, s .good .1 .1 .1 .1 .1 .1 .1 .1 .0 .1 .0 .1) in
-    λ F lent. branch-first (a .last) F (now (a .kinds)) (now (a .left)) (now (a .right)) (now (a .most)) lent (a .truths) (a .g) (a .near) (length (now (a .most)) - a .undecided) h (sym (kn .ensures) ∙ ap threeOf (told .enum-told3 .given .1)) tr (length (now (a .most)) - (a .undecided - 1)) (omega (arith, s .pre .1 .1, el .if1 .left)) (now (a .room)) _ (a .spot) _ (el3 .put2 .ensures) _ _ (c .before .before .before .before .with-truth .ensures) (toZ-ofZ {w = w64} w) _ (c .before .before .before .side .result) (c .if2 .taken) (c .before .before .before .side .ensures F lent)
+    λ F lent. branch-first (a .last) F (now (a .kinds)) (now (a .left)) (now (a .right)) (now (a .most)) lent (a .truths) (now (a .g)) (now (a .near)) (length (now (a .most)) - a .undecided) h (sym (kn .ensures) ∙ ap threeOf (told .enum-told3 .given .1)) tr (length (now (a .most)) - (a .undecided - 1)) (omega (arith, s .pre .1 .1, el .if1 .left)) (now (a .room)) _ (a .spot) _ (el3 .put2 .ensures) _ _ (c .before .before .before .before .with-truth .ensures) (toZ-ofZ {w = w64} w) _ (c .before .before .before .side .result) (c .if2 .taken) (c .before .before .before .side .ensures F lent)
 
 grow-sub-side-2 : (t : ℕ) → grow-lts.Need-sub-side-2 (grow-calls t) (grow-at t) grow.Post
 grow-sub-side-2 t c = search needs
@@ -168,7 +167,7 @@ grow-side-requires-2 t c κs =
     let s = c .before .before .before .before .before .before .before .before .before .before .before .before .before .before .before .before .before .before .before .before .before .before .before .before .before in
     let a = s .args in
     let h : length (now (a .most)) - a .undecided < length (now (a .most)) = omega (arith, s .pre .1 .1, c .before .before .before .before .before .before .before .before .before .before .before .before .before .before .before .before .before .if1 .left) in
-    let w = fact-fits (a .last) (now (a .left)) (now (a .right)) (now (a .most)) (a .g) (a .near) (s .pre .1 .2) _ _ _ (s .pre .1 .2 .facts (length (now (a .most)) - a .undecided) h true) in
+    let w = fact-fits (a .last) _ _ _ (s .pre .1 .2 .facts (length (now (a .most)) - a .undecided) h true) in
     (omega (arith, s .pre .0, c .before .before .before .before .before .before .before .before .before .before .before .before .before .before .before .before .before .if1 .left), (s .pre .1 .0, omega (arith, s .pre .1 .1), subst (λ z. Fact (a .last) (getD (now (a .left)) (length (now (a .most)) - a .undecided) 0) (getD (now (a .right)) (length (now (a .most)) - a .undecided) 0) z) (sym (toZ-ofZ {w = w64} (record { sfits = c .negation .ok }) ∙ c .negation .ensures ∙ ap (λ z. negℤ z -ℤ pos 1) (toZ-ofZ {w = w64} w))) (s .pre .1 .2 .facts (length (now (a .most)) - a .undecided) h false), s .pre .1 .2))
 
 grow-same-length-2 : (t : ℕ) → grow-lts.Need-same-length-2 (grow-calls t) (grow-at t) grow.Post
@@ -178,13 +177,13 @@ grow-returns-3 : (t : ℕ) → grow-lts.Need-returns-3 (grow-calls t) (grow-at t
 grow-returns-3 t c =
     let a = c .before .before .before .before .before .before .before .before .before .before .before .before .args in
     let kn = c .before .before .before .before .before .before .before .known-so-far in
-    λ F lent. grows-false (a .last) F (now (a .kinds)) (now (a .left)) (now (a .right)) (now (a .most)) lent (a .truths) (a .g) (a .near) (length (now (a .most)) - a .undecided) (now (a .room)) _ (a .spot) (c .shut .result) _ (sym (kn .ensures) ∙ ap threeOf (c .before .before .before .before .before .enum-told .given .1)) (c .shut .ensures .0) (c .shut .ensures .1) (c .before .before .before .put .ensures)
+    λ F lent. grows-false (a .last) F (now (a .kinds)) (now (a .left)) (now (a .right)) (now (a .most)) lent (a .truths) (now (a .g)) (now (a .near)) (length (now (a .most)) - a .undecided) (now (a .room)) _ (a .spot) (c .shut .result) _ (sym (kn .ensures) ∙ ap threeOf (c .before .before .before .before .before .enum-told .given .1)) (c .shut .ensures .0) (c .shut .ensures .1) (c .before .before .before .put .ensures)
 
 grow-returns-4 : (t : ℕ) → grow-lts.Need-returns-4 (grow-calls t) (grow-at t) grow.Post
 grow-returns-4 t c =
     let a = c .before .before .before .before .before .before .before .before .args in
     let kn = c .before .before .before .known-so-far in
-    λ F lent. grows-true (a .last) F (now (a .kinds)) (now (a .left)) (now (a .right)) (now (a .most)) lent (a .truths) (a .g) (a .near) (length (now (a .most)) - a .undecided) (now (a .room)) _ (a .spot) (c .open .result) (sym (kn .ensures) ∙ ap threeOf (c .before .enum-told2 .given .1)) (sized 17 (a .near) _ (c .before .before .before .before .before .before .before .before .good .1 .1 .1 .1 .1 .1 .1 .1 .1 .1 .0)) (c .before .before .before .before .before .before .before .before .pre .1 .2 .few) (c .open .ensures .0) (c .open .ensures .1) refl
+    λ F lent. grows-true (a .last) F (now (a .kinds)) (now (a .left)) (now (a .right)) (now (a .most)) lent (a .truths) (now (a .g)) (now (a .near)) (length (now (a .most)) - a .undecided) (now (a .room)) _ (a .spot) (c .open .result) (sym (kn .ensures) ∙ ap threeOf (c .before .enum-told2 .given .1)) (c .before .before .before .before .before .before .before .before .pre .1 .2 .table) (c .before .before .before .before .before .before .before .before .pre .1 .2 .few) (c .open .ensures .0) (c .open .ensures .1) refl
 
 grow-same-length-3 : (t : ℕ) → grow-lts.Need-same-length-3 (grow-calls t) (grow-at t) grow.Post
 grow-same-length-3 t c = search needs
@@ -198,36 +197,41 @@ grow-returns-5 t c =
     let el = c .before .before .before .before .before .before .before .before .before .before .before .before .before .before .before .before .before .before .before .before in
     let el3 = c .before .before .before .before .before .before .before .before .before .before .before .before .before .before .before in
     let h : length (now (a .most)) - a .undecided < length (now (a .most)) = omega (arith, s .pre .1 .1, el .if1 .left) in
-    let w = fact-fits (a .last) (now (a .left)) (now (a .right)) (now (a .most)) (a .g) (a .near) (s .pre .1 .2) _ _ _ (s .pre .1 .2 .facts (length (now (a .most)) - a .undecided) h true) in
+    let w = fact-fits (a .last) _ _ _ (s .pre .1 .2 .facts (length (now (a .most)) - a .undecided) h true) in
     let tr : length (now (a .most)) - a .undecided < length (a .truths) = omega (arith, s .pre .1 .2 .as-long .2, s .good .1 .1 .1 .1 .1 .1 .1 .1 .0 .1 .0 .1) in
-    λ F lent. branch-second (a .last) F (now (a .kinds)) (now (a .left)) (now (a .right)) (now (a .most)) lent (a .truths) (a .g) (a .near) (length (now (a .most)) - a .undecided) h (sym (kn .ensures) ∙ ap threeOf (told .enum-told3 .given .1)) tr (length (now (a .most)) - (a .undecided - 1)) (omega (arith, s .pre .1 .1, el .if1 .left)) (now (a .room)) _ (a .spot) _ (el3 .put2 .ensures) _ _ _ _ (c .before .before .before .before .before .before .before .before .before .before .before .with-truth .ensures) (toZ-ofZ {w = w64} w) (c .before .before .before .before .with-truth2 .ensures) (toZ-ofZ {w = w64} (record { sfits = c .before .before .before .negation .ok }) ∙ c .before .before .before .negation .ensures ∙ ap (λ z. negℤ z -ℤ pos 1) (toZ-ofZ {w = w64} w)) _ _ (c .before .before .before .before .before .before .before .before .before .before .side .result) (c .before .before .side2 .result) (c .before .before .before .before .before .before .before .if2 .left) (c .before .before .before .before .before .before .before .before .before .before .side .ensures F lent) (c .before .before .side2 .ensures F lent)
+    λ F lent. branch-second (a .last) F (now (a .kinds)) (now (a .left)) (now (a .right)) (now (a .most)) lent (a .truths) (now (a .g)) (now (a .near)) (length (now (a .most)) - a .undecided) h (sym (kn .ensures) ∙ ap threeOf (told .enum-told3 .given .1)) tr (length (now (a .most)) - (a .undecided - 1)) (omega (arith, s .pre .1 .1, el .if1 .left)) (now (a .room)) _ (a .spot) _ (el3 .put2 .ensures) _ _ _ _ (c .before .before .before .before .before .before .before .before .before .before .before .with-truth .ensures) (toZ-ofZ {w = w64} w) (c .before .before .before .before .with-truth2 .ensures) (toZ-ofZ {w = w64} (record { sfits = c .before .before .before .negation .ok }) ∙ c .before .before .before .negation .ensures ∙ ap (λ z. negℤ z -ℤ pos 1) (toZ-ofZ {w = w64} w)) _ _ (c .before .before .before .before .before .before .before .before .before .before .side .result) (c .before .before .side2 .result) (c .before .before .before .before .before .before .before .if2 .left) (c .before .before .before .before .before .before .before .before .before .before .side .ensures F lent) (c .before .before .side2 .ensures F lent)
 
 -- the sum that tells whether the fact closes a negative cycle
-side-fits : (t : ℕ) (s : side-lts.Start (side-calls t) (side-at t) side.Post) → SFits w64 (weight (s .args .near) (s .args .to) (s .args .from) +ℤ s .args .k)
+side-fits : (t : ℕ) (s : side-lts.Start (side-calls t) (side-at t) side.Post) → SFits w64 (weight (now (s .args .near)) (s .args .to) (s .args .from) +ℤ s .args .k)
 side-fits t s =
     let a = s .args in
-    let b = near-within (a .last) (now (a .left)) (now (a .right)) (now (a .most)) (a .g) (a .near) (s .pre .1 .3) .entry (a .to) (a .from) (s .pre .1 .2 .to-is) (s .pre .1 .2 .from-is) in
-    omega (arith, machine, b .high, b .low, s .pre .1 .2 .high, s .pre .1 .2 .low, +law (weight (a .near) (a .to) (a .from)) (a .k))
-
-side-tighten-requires : (t : ℕ) → side-lts.Need-tighten-requires (side-calls t) (side-at t) side.Post
-side-tighten-requires t c κs = search needs
+    let b = near-within (a .last) (now (a .left)) (now (a .right)) (now (a .most)) (now (a .g)) (now (a .near)) (s .pre .1 .3) .entry (a .to) (a .from) (s .pre .1 .2 .to-is) (s .pre .1 .2 .from-is) in
+    omega (arith, machine, b .high, b .low, s .pre .1 .2 .high, s .pre .1 .2 .low, +law (weight (now (a .near)) (a .to) (a .from)) (a .k))
 
 side-edge-requires : (t : ℕ) → side-lts.Need-edge-requires (side-calls t) (side-at t) side.Post
-side-edge-requires t c κs = search needs
+side-edge-requires t c κs =
+    let s = c .before .before .before .before in
+    (omega (arith, s .pre .1 .2 .to-is, s .pre .1 .3 .few), omega (arith, s .pre .1 .2 .from-is, s .pre .1 .3 .few), s .pre .1 .3 .table)
 
 side-add-if1 : (t : ℕ) → side-lts.Need-add-if1 (side-calls t) (side-at t) side.Post
 side-add-if1 t c =
-    let s = c .before .before .before .before .before .before in
+    let s = c .before .before .before .before .before in
     subst (SFits w64) (sym (ap₂ _+ℤ_ (toZ-ofZ {w = w64} (record { sfits = c .edge .ok }) ∙ c .edge .ensures) (toZ-ofZ {w = w64} (s .fits .k)))) (side-fits t s)
+
+-- that sum, as the code has it
+sum-is : (t : ℕ) (c : side-lts.After-edge (side-calls t) (side-at t) side.Post) →
+    let a = c .before .before .before .before .before .args in
+    toZ w64 (ofZ w64 (toZ w64 (ofZ w64 (c .edge .result)) +ℤ toZ w64 (ofZ w64 (a .k)))) ≡ weight (now (a .near)) (a .to) (a .from) +ℤ a .k
+sum-is t c = toZ-ofZ {w = w64} (side-add-if1 t c) ∙ ap₂ _+ℤ_ (toZ-ofZ {w = w64} (record { sfits = c .edge .ok }) ∙ c .edge .ensures) (toZ-ofZ {w = w64} (c .before .before .before .before .before .fits .k))
 
 side-sub-decided : (t : ℕ) → side-lts.Need-sub-decided (side-calls t) (side-at t) side.Post
 side-sub-decided t c = search needs
 
 side-cut-requires : (t : ℕ) → side-lts.Need-cut-requires (side-calls t) (side-at t) side.Post
 side-cut-requires t c κs =
-    let s = c .before .before .before .before .before .before .before .before in
+    let s = c .before .before .before .before .before .before .before in
     let a = s .args in
-    (s .pre .1 .0, omega (arith, s .pre .1 .3 .as-long .2), s .pre .1 .3 .few, subst Kept (sym (c .before .before .before .tighten .ensures ∙ ap (tighten (a .g) (a .from) (a .to)) (toZ-ofZ {w = w64} (s .fits .k)))) (kept-next (a .last) (now (a .left)) (now (a .right)) (now (a .most)) (a .g) (a .near) (s .pre .1 .3) (a .from) (a .to) (a .k) (s .pre .1 .2)))
+    (s .pre .1 .0, omega (arith, s .pre .1 .3 .as-long .2), s .pre .1 .3 .few, s .pre .1 .3 .kept, subst (Fact (a .last) (a .from) (a .to)) (sym (toZ-ofZ {w = w64} (s .fits .k))) (s .pre .1 .2))
 
 side-shut-requires : (t : ℕ) → side-lts.Need-shut-requires (side-calls t) (side-at t) side.Post
 side-shut-requires t c κs = search needs
@@ -237,33 +241,44 @@ side-same-length t c = search needs
 
 side-returns : (t : ℕ) → side-lts.Need-returns (side-calls t) (side-at t) side.Post
 side-returns t c =
-    let s = c .before .before .before .before .before .before .before .before .before .before .before .before in
+    let e = c .before .before .before .before .before .before in
+    let s = c .before .before .before .before .before .before .before .before .before .before .before in
     let a = s .args in
-    λ F lent. side-cut (a .last) F (now (a .kinds)) (now (a .left)) (now (a .right)) (now (a .most)) lent (a .truths) (a .g) (a .near) (length (now (a .most)) - a .undecided) (a .from) (a .to) (a .k) _ _ (toZ-ofZ {w = w64} (side-add-if1 t (c .before .before .before .before .before .before)) ∙ ap₂ _+ℤ_ (toZ-ofZ {w = w64} (record { sfits = c .before .before .before .before .before .before .edge .ok }) ∙ c .before .before .before .before .before .before .edge .ensures) (toZ-ofZ {w = w64} (s .fits .k))) (c .before .before .before .before .before .before .before .tighten .ensures ∙ ap (tighten (a .g) (a .from) (a .to)) (toZ-ofZ {w = w64} (s .fits .k))) (now (a .room)) _ (a .spot) _ (c .shut .result) (c .before .before .before .before .before .if1 .taken) (c .shut .ensures .0) (c .shut .ensures .1) (c .before .before .before .cut .ensures)
+    λ F lent. side-cut (a .last) F (now (a .kinds)) (now (a .left)) (now (a .right)) (now (a .most)) lent (a .truths) (now (a .g)) (now (a .near)) (length (now (a .most)) - a .undecided) (a .from) (a .to) (a .k) _ _ (sum-is t e) (ap (tighten (now (a .g)) (a .from) (a .to)) (toZ-ofZ {w = w64} (s .fits .k))) (now (a .room)) _ (a .spot) _ (c .shut .result) (c .before .before .before .before .before .if1 .taken) (c .shut .ensures .0) (c .shut .ensures .1) (c .before .before .before .cut .ensures)
+
+side-tighten-requires : (t : ℕ) → side-lts.Need-tighten-requires (side-calls t) (side-at t) side.Post
+side-tighten-requires t c κs = search needs
 
 side-add-relax : (t : ℕ) → side-lts.Need-add-relax (side-calls t) (side-at t) side.Post
 side-add-relax t c = search needs
 
 side-relax-requires : (t : ℕ) → side-lts.Need-relax-requires (side-calls t) (side-at t) side.Post
 side-relax-requires t c κs =
-    let s = c .before .before .before .before .before .before .before in
+    let s = c .before .before .before .before .before .before .before .before .before in
     let a = s .args in
-    ((omega (arith, s .pre .1 .3 .few), omega (arith, s .pre .1 .2 .from-is), omega (arith, s .pre .1 .2 .to-is)), (simp (toZ-ofZ, s .fits .k) (fact-bounded (a .last) (now (a .left)) (now (a .right)) (now (a .most)) (a .g) (a .near) (s .pre .1 .3) (a .from) (a .to) (a .k) (s .pre .1 .2)), simp add-one (near-within (a .last) (now (a .left)) (now (a .right)) (now (a .most)) (a .g) (a .near) (s .pre .1 .3))))
+    ((omega (arith, s .pre .1 .3 .few), omega (arith, s .pre .1 .2 .from-is), omega (arith, s .pre .1 .2 .to-is)), (simp (toZ-ofZ, s .fits .k) (fact-bounded (a .last) (a .from) (a .to) (a .k) (s .pre .1 .2)), simp add-one (near-within (a .last) (now (a .left)) (now (a .right)) (now (a .most)) (now (a .g)) (now (a .near)) (s .pre .1 .3))))
+
+-- the facts and their closure that are handed on
+facts-are : (t : ℕ) (c : side-lts.After-tighten (side-calls t) (side-at t) side.Post) → let a = c .before .before .before .before .before .before .before .before .args in c .tighten .result ≡ tighten (now (a .g)) (a .from) (a .to) (a .k)
+facts-are t c = let s = c .before .before .before .before .before .before .before .before in c .tighten .ensures ∙ ap (tighten (now (s .args .g)) (s .args .from) (s .args .to)) (toZ-ofZ {w = w64} (s .fits .k))
+
+closer-is : (t : ℕ) (c : side-lts.After-relax (side-calls t) (side-at t) side.Post) → let a = c .before .before .before .before .before .before .before .before .before .before .args in c .relax .result ≡ tabled (relax (weight (now (a .near))) (a .from) (a .to) (a .k)) (suc (a .last)) (now (a .near))
+closer-is t c = let s = c .before .before .before .before .before .before .before .before .before .before in let a = s .args in c .relax .ensures ∙ ap₂ (λ z m. tabled (relax (weight (now (a .near))) (a .from) (a .to) z) m (now (a .near))) (toZ-ofZ {w = w64} (s .fits .k)) (add-one (a .last))
 
 side-grow-requires : (t : ℕ) → side-lts.Need-grow-requires (side-calls t) (side-at t) side.Post
 side-grow-requires t c κs =
-    let s = c .before .before .before .before .before .before .before .before .before in
+    let s = c .before .before .before .before .before .before .before .before .before .before .before .before .before in
     let a = s .args in
-    (omega (arith, s .pre .0), (s .pre .1 .0, s .pre .1 .1, ready-handed (a .last) (now (a .left)) (now (a .right)) (now (a .most)) (a .g) (a .near) (s .pre .1 .3) (a .from) (a .to) (a .k) (s .pre .1 .2) (sized 17 (a .g) _ (s .good .1 .1 .1 .1 .1 .1 .1 .1 .1 .0)) (sized 17 (a .near) _ (s .good .1 .1 .1 .1 .1 .1 .1 .1 .1 .1 .0)) _ _ _ (toZ-ofZ {w = w64} (side-add-if1 t (c .before .before .before)) ∙ ap₂ _+ℤ_ (toZ-ofZ {w = w64} (record { sfits = c .before .before .before .edge .ok }) ∙ c .before .before .before .edge .ensures) (toZ-ofZ {w = w64} (s .fits .k))) (c .before .before .before .before .tighten .ensures ∙ ap (tighten (a .g) (a .from) (a .to)) (toZ-ofZ {w = w64} (s .fits .k))) (c .before .relax .ensures ∙ ap₂ (λ z m. tabled (relax (weight (a .near)) (a .from) (a .to) z) m (a .near)) (toZ-ofZ {w = w64} (s .fits .k)) (add-one (a .last))) (c .before .before .if1 .left)))
+    (omega (arith, s .pre .0), (s .pre .1 .0, s .pre .1 .1, ready-handed (a .last) (now (a .left)) (now (a .right)) (now (a .most)) (now (a .g)) (now (a .near)) (s .pre .1 .3) (a .from) (a .to) (a .k) (s .pre .1 .2) _ _ _ (sum-is t (c .before .before .before .before .before .before .before .before)) (facts-are t (c .before .before .before .before .before)) (closer-is t (c .before .before .before)) (c .before .before .before .before .before .before .before .if1 .left)))
 
 side-same-length-2 : (t : ℕ) → side-lts.Need-same-length-2 (side-calls t) (side-at t) side.Post
 side-same-length-2 t c = search needs
 
 side-returns-2 : (t : ℕ) → side-lts.Need-returns-2 (side-calls t) (side-at t) side.Post
 side-returns-2 t c =
-    let s = c .before .before .before .before .before .before .before .before .before .before .before .before in
+    let s = c .before .before .before .before .before .before .before .before .before .before .before .before .before .before .before .before in
     let a = s .args in
-    λ F lent. side-calm (a .last) F (now (a .kinds)) (now (a .left)) (now (a .right)) (now (a .most)) lent (a .truths) (a .g) (a .near) (length (now (a .most)) - a .undecided) (a .from) (a .to) (a .k) _ _ _ (toZ-ofZ {w = w64} (side-add-if1 t (c .before .before .before .before .before .before)) ∙ ap₂ _+ℤ_ (toZ-ofZ {w = w64} (record { sfits = c .before .before .before .before .before .before .edge .ok }) ∙ c .before .before .before .before .before .before .edge .ensures) (toZ-ofZ {w = w64} (s .fits .k))) (c .before .before .before .before .before .before .before .tighten .ensures ∙ ap (tighten (a .g) (a .from) (a .to)) (toZ-ofZ {w = w64} (s .fits .k))) (c .before .before .before .before .relax .ensures ∙ ap₂ (λ z m. tabled (relax (weight (a .near)) (a .from) (a .to) z) m (a .near)) (toZ-ofZ {w = w64} (s .fits .k)) (add-one (a .last))) (now (a .room)) _ (a .spot) (c .before .before .grow .result) (c .before .before .before .before .before .if1 .left) (s .pre .1 .3) (sized 17 (a .near) _ (s .good .1 .1 .1 .1 .1 .1 .1 .1 .1 .1 .0)) (c .before .before .grow .ensures F lent)
+    λ F lent. side-calm (a .last) F (now (a .kinds)) (now (a .left)) (now (a .right)) (now (a .most)) lent (a .truths) (now (a .g)) (now (a .near)) (length (now (a .most)) - a .undecided) (a .from) (a .to) (a .k) _ _ _ (sum-is t (c .before .before .before .before .before .before .before .before .before .before .before)) (facts-are t (c .before .before .before .before .before .before .before .before)) (closer-is t (c .before .before .before .before .before .before)) (now (a .room)) _ (a .spot) (c .before .before .grow .result) (c .before .before .before .before .before .before .before .before .before .before .if1 .left) (s .pre .1 .3) (c .before .before .grow .ensures F lent)
 
 pub +grow+side-spec : {M : Type 1} → statement M
 +grow+side-spec = close μ-grow μ-side (λ t. grow-lts.spec (grow-calls t)
@@ -300,23 +315,9 @@ pub +grow+side-spec : {M : Type 1} → statement M
     (grow-returns-4 t)
     (grow-same-length-3 t)
     (grow-returns-5 t))
-    λ t. side-lts.spec (
-      tighten-reads.Asked,
-      tighten-reads.Learnt,
-      edge-reads.Asked,
-      edge-reads.Learnt,
-      cut-reads.Asked,
-      cut-reads.Learnt,
-      shut-reads.Asked,
-      shut-reads.Learnt,
-      relax-reads.Asked,
-      relax-reads.Learnt,
-      grow-below t,
-      grow.Post,
-    )
+    λ t. side-lts.spec (side-calls t)
     (side-at t)
     side.Post
-    (side-tighten-requires t)
     (side-edge-requires t)
     (side-add-if1 t)
     (side-sub-decided t)
@@ -324,6 +325,7 @@ pub +grow+side-spec : {M : Type 1} → statement M
     (side-shut-requires t)
     (side-same-length t)
     (side-returns t)
+    (side-tighten-requires t)
     (side-add-relax t)
     (side-relax-requires t)
     (side-grow-requires t)

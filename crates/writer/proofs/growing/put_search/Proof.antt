@@ -1,27 +1,34 @@
-use mathlib.Core.Path.{_≡_, sym, ap, _∙_}
+use mathlib.Core.Path.{_≡_, sym, ap, ap₂, _∙_, subst}
 use denote.Ref.{now}
-use Rattle.grid.specs.Grid.{weight}
+use mir.Facts.{toZ-ofZ}
+use Rattle.grid.specs.Grid.{weight, tighten}
 use Rattle.grid.specs.Search as S
+use Rattle.writer.specs.Growing.{Kept}
 use Rattle.writer.specs.Room.{filling, puts}
 use Rattle.sheet.specs.Tree.{bytesOf, cycle}
 use native.Mathlib.Omega.{arith}
 use Prim.Native.Nat.{_+_, _-_}
-use Rattle.writer.proofs.Puts.{puts-over}
-use Rattle.writer.proofs.Growths.{kept-within, found-list}
+use Rattle.writer.proofs.Growths.{kept-next, kept-within, found-list}
 use borrow.Author.Needs.{needs}
 use Rattle.writer.proofs.growing.put_search.Statement.{statement}
 use Rattle.writer.proofs.growing.put_search.Tie as tie
 
-returns : tie.Need-returns
-returns c = let a = c .before .before .args in sym (puts-over (filling (now (a .room)) (a .spot)) _ (c .if1 .taken))
+tighten-requires : tie.Need-tighten-requires
+tighten-requires c κs = search needs
 
 add-search : tie.Need-add-search
 add-search c = search needs
 
+-- the facts that are searched
+facts-are : (c : tie.After-tighten) → let a = c .before .before .before .args in c .tighten .result ≡ tighten (now (a .g)) (a .from) (a .to) (a .k)
+facts-are c = let s = c .before .before .before in c .tighten .ensures ∙ ap (tighten (now (s .args .g)) (s .args .from) (s .args .to)) (toZ-ofZ (s .fits .k))
+
 search-requires : tie.Need-search-requires
 search-requires c κs =
-    let s = c .before .before in
-    ((omega arith, omega (arith, s .pre .0)), kept-within (s .args .g) (s .pre .1) (s .args .last + 1))
+    let s = c .before .before .before .before in
+    let a = s .args in
+    let kept = subst Kept (sym (facts-are (c .before))) (kept-next (a .last) (a .from) (a .to) (a .k) (s .pre .2) (now (a .g)) (s .pre .1)) in
+    ((omega arith, omega (arith, s .pre .0)), (kept .sized, kept-within _ kept (a .last + 1)))
 
 put-cycle-requires : tie.Need-put-cycle-requires
 put-cycle-requires c κs = search needs
@@ -29,14 +36,15 @@ put-cycle-requires c κs = search needs
 same-length : tie.Need-same-length
 same-length c = search needs
 
-returns-2 : tie.Need-returns-2
-returns-2 c =
-    let s = c .before .before .before .before .before .before .before .before in
+returns : tie.Need-returns
+returns c =
+    let s = c .before .before .before .before .before .before .before .before .before .before in
+    let a = s .args in
     let found = c .before .before .before .before .before .search in
-    let last : s .args .last + 1 - 1 ≡ s .args .last = omega arith in
+    let last : a .last + 1 - 1 ≡ a .last = omega arith in
     c .before .before .put-cycle .ensures
-    ∙ ap (λ l. puts (filling (now (s .args .room)) (s .args .spot)) (bytesOf (cycle l))) (found-list (found .result) (S.search (weight (s .args .g)) (s .args .last)) (found .ensures .0 ∙ ap (S.search (weight (s .args .g))) last))
+    ∙ ap (λ l. puts (filling (now (a .room)) (a .spot)) (bytesOf (cycle l))) (found-list (found .result) (S.search (weight (tighten (now (a .g)) (a .from) (a .to) (a .k))) (a .last)) (found .ensures .0 ∙ ap₂ (λ x m. S.search (weight x) m) (facts-are (c .before .before .before .before .before .before .before)) last))
 
 pub put-search-spec : {M : Type 1} → statement M
 put-search-spec =
-    tie.close (tie.spec returns add-search search-requires put-cycle-requires same-length returns-2)
+    tie.close (tie.spec tighten-requires add-search search-requires put-cycle-requires same-length returns)

@@ -57,13 +57,13 @@ sub-grow c = search needs
 
 grow-requires : tie.Need-grow-requires
 grow-requires c κs =
-    let s = c .before .before .before .before .before .before .before .before in
+    let s = c .before .before .before .before .before .before .before .before .before .before in
     let a = s .args in
     let q = s .pre in
     let l = lengths _ _ _ _ _ _ _ (q .coded) in (
       omega (arith, length-take-le (a .n) (a .t3) (omega (arith, s .good .1 .1 .0 .1 .0 .1, q .coded .n-is, q .proper .short)), q .coded .n-is, q .proper .short),
       omega (arith, l .2),
-      root-ready _ _ _ _ _ _ _ (q .coded) (q .proper) (a .count - 1) (omega (arith, q .ranging .count-is)) _ _ (c .before .before .before .before .before .before .start .ensures .meaning _ (q .ranging .spans)) (near-of _ _ _ _ _ _ (q .ranging) (c .before .before .before .before .before .near-start .ensures)),
+      root-ready _ _ _ _ _ _ _ (q .coded) (q .proper) (a .count - 1) (omega (arith, q .ranging .count-is)) _ _ (c .before .before .before .before .before .before .before .before .start .ensures .meaning _ (q .ranging .spans)) (near-of _ _ _ _ _ _ (q .ranging) (c .before .before .before .before .before .before .before .near-start .ensures)),
     )
 
 same-length : tie.Need-same-length
@@ -71,9 +71,9 @@ same-length c = search needs
 
 returns : tie.Need-returns
 returns c =
-    let s = c .before .before .before .before .before .before .before .before .before .before .before in
+    let s = c .before .before .before .before .before .before .before .before .before .before .before .before .before in
     let a = s .args in
-    λ F coded ranging proper. root-grows F _ _ _ _ _ _ coded proper (a .count - 1) (length (take (a .few) (a .t7)) - a .few) (omega (arith, ranging .count-is)) (omega (arith, lengths F _ _ _ _ _ _ coded .2)) _ _ _ (c .before .before .before .before .before .before .before .before .before .start .ensures .meaning _ (ranging .spans)) (near-of _ _ _ _ _ _ ranging (c .before .before .before .before .before .before .before .before .near-start .ensures)) (now (a .room)) (a .spot) _ _ (c .before .before .grow .ensures F (coded .lent))
+    λ F coded ranging proper. root-grows F _ _ _ _ _ _ coded proper (a .count - 1) (length (take (a .few) (a .t7)) - a .few) (omega (arith, ranging .count-is)) (omega (arith, lengths F _ _ _ _ _ _ coded .2)) _ _ _ (c .before .before .before .before .before .before .before .before .before .before .before .start .ensures .meaning _ (ranging .spans)) (near-of _ _ _ _ _ _ ranging (c .before .before .before .before .before .before .before .before .before .before .near-start .ensures)) (now (a .room)) (a .spot) _ _ (c .before .before .grow .ensures F (coded .lent))
 
 pub plant-spec : {M : Type 1} → statement M
 plant-spec =
