@@ -51,7 +51,7 @@ pub fn tighten(
     ensures { λ r. ⌜ r ≡ tighten g from to k ⌝ }
 {
     let mut h = g;
-    let least = lesser(g[from][to], k);
+    let least = lesser(h[from][to], k);
     h[from][to] = least;
     h
 }
@@ -80,7 +80,21 @@ pub fn relax_row(row: &mut [i64], on: &[i64], n: usize, reach: i64)
     }
 }
 
-// The least sums with a new edge from b to a of weight k.
+// The least sums with a new edge from b to a of weight k, in the grid that is lent.
+pub fn relax_in(near: &mut [[i64; VERTICES]; VERTICES], n: usize, b: usize, a: usize, k: i64)
+    requires { ⌜ (n ≤ mostVertices) × (b < n) × (a < n) × Sized mostVertices (now near) ⌝ }
+    requires { ⌜ Bounded farN k ⌝ }
+    requires { ⌜ AllWithin farN n (now near) ⌝ }
+    ensures { λ _. ⌜ now (near .exit) ≡ tabled (relax (weight (now (near .entry))) b a k) n (now (near .entry)) ⌝ }
+{
+    let on = near[a];
+    for u in 0..n {
+        let reach = near[u][b] + k;
+        relax_row(&mut near[u], &on, n, reach);
+    }
+}
+
+// The same by value.
 pub fn relax(
     near: [[i64; VERTICES]; VERTICES],
     n: usize,
@@ -94,11 +108,7 @@ pub fn relax(
     ensures { λ r. ⌜ r ≡ tabled (relax (weight near) b a k) n near ⌝ }
 {
     let mut h = near;
-    let on = near[a];
-    for u in 0..n {
-        let reach = near[u][b] + k;
-        relax_row(&mut h[u], &on, n, reach);
-    }
+    relax_in(&mut h, n, b, a, k);
     h
 }
 
@@ -131,15 +141,13 @@ fn column(g: &[[i64; VERTICES]; VERTICES], row: &mut [i64], n: usize, s: usize)
 }
 
 // The least sums of one edge, a row for each vertex that it goes to.
-fn single(g: &[[i64; VERTICES]; VERTICES], n: usize) -> [[i64; VERTICES]; VERTICES]
-    requires { ⌜ (n ≤ mostVertices) × Sized mostVertices (now g) ⌝ }
-    ensures { λ r. ⌜ r ≡ tabled (λ s v. weight (now (g .entry)) v s) n (now (g .entry)) ⌝ }
+fn single(g: &[[i64; VERTICES]; VERTICES], sums: &mut [[i64; VERTICES]; VERTICES], n: usize)
+    requires { ⌜ (n ≤ mostVertices) × Sized mostVertices (now g) × Sized mostVertices (now sums) ⌝ }
+    ensures { λ _. ⌜ now (sums .exit) ≡ tabled (λ s v. weight (now (g .entry)) v s) n (now (sums .entry)) ⌝ }
 {
-    let mut h = *g;
     for s in 0..n {
-        column(g, &mut h[s], n, s);
+        column(g, &mut sums[s], n, s);
     }
-    h
 }
 
 // The least sum of an edge to a vertex below n and the way on from there.
@@ -170,21 +178,16 @@ fn longer(g: &[[i64; VERTICES]; VERTICES], on: &[i64], row: &mut [i64], n: usize
 }
 
 // One edge more for every start.
-fn further(
-    g: &[[i64; VERTICES]; VERTICES],
-    sums: &[[i64; VERTICES]; VERTICES],
-    n: usize,
-) -> [[i64; VERTICES]; VERTICES]
+fn further(g: &[[i64; VERTICES]; VERTICES], sums: &mut [[i64; VERTICES]; VERTICES], n: usize)
     requires { ⌜ (0 < n) × (n ≤ mostVertices) ⌝ }
     requires { ⌜ Sized mostVertices (now g) × AllWithin farN n (now g) ⌝ }
     requires { ⌜ Sized mostVertices (now sums) × AllWithin wide n (now sums) ⌝ }
-    ensures { λ r. ⌜ r ≡ tabled (λ s v. least (λ u. weight (now (g .entry)) v u +ℤ weight (now (sums .entry)) s u) (n - 1)) n (now (sums .entry)) ⌝ }
+    ensures { λ _. ⌜ now (sums .exit) ≡ tabled (λ s v. least (λ u. weight (now (g .entry)) v u +ℤ weight (now (sums .entry)) s u) (n - 1)) n (now (sums .entry)) ⌝ }
 {
-    let mut h = *sums;
     for s in 0..n {
-        longer(g, &sums[s], &mut h[s], n);
+        let on = sums[s];
+        longer(g, &on, &mut sums[s], n);
     }
-    h
 }
 
 // The first vertex below n by which the walk can still close below zero, where sum is the way so far; n if there is none.
@@ -215,7 +218,8 @@ fn shortest(g: &[[i64; VERTICES]; VERTICES], n: usize) -> Opening
     requires { ⌜ Sized mostVertices (now g) × AllWithin farN n (now g) ⌝ }
     ensures { λ r. ⌜ Opens (weight (now (g .entry))) (n - 1) (r .count) (r .start) ⌝ }
 {
-    let mut sums = single(g, n);
+    let mut sums = *g;
+    single(g, &mut sums, n);
     let mut count: usize = 0;
     let mut start: usize = 0;
     'search: for k in 0..n {
@@ -226,7 +230,7 @@ fn shortest(g: &[[i64; VERTICES]; VERTICES], n: usize) -> Opening
                 break 'search;
             }
         }
-        sums = further(g, &sums, n);
+        further(g, &mut sums, n);
     }
     Opening { count, start }
 }
@@ -234,21 +238,21 @@ fn shortest(g: &[[i64; VERTICES]; VERTICES], n: usize) -> Opening
 // The least sums of the walks back to s, row by row one edge more.
 fn ways(
     g: &[[i64; VERTICES]; VERTICES],
+    back: &mut [[i64; VERTICES]; VERTICES],
     n: usize,
     s: usize,
     count: usize,
-) -> [[i64; VERTICES]; VERTICES]
+)
     requires { ⌜ (0 < n) × (n ≤ mostVertices) × (s < n) × (0 < count) × (count ≤ n) ⌝ }
     requires { ⌜ Sized mostVertices (now g) × AllWithin farN n (now g) ⌝ }
-    ensures { λ r. ⌜ Ways (now (g .entry)) n s count r ⌝ }
+    requires { ⌜ Sized mostVertices (now back) ⌝ }
+    ensures { λ _. ⌜ Ways (now (g .entry)) n s count (now (back .exit)) ⌝ }
 {
-    let mut h = *g;
-    column(g, &mut h[0], n, s);
+    column(g, &mut back[0], n, s);
     for j in 1..count {
-        let on = h[j - 1];
-        longer(g, &on, &mut h[j], n);
+        let on = back[j - 1];
+        longer(g, &on, &mut back[j], n);
     }
-    h
 }
 
 // A closed walk: its vertices are the first count of the list; count 0 stands for none.
@@ -299,6 +303,7 @@ pub fn search(g: &[[i64; VERTICES]; VERTICES], n: usize) -> Cycle
             vertices: [0; VERTICES],
         };
     }
-    let back = ways(g, n, start, count);
+    let mut back = *g;
+    ways(g, &mut back, n, start, count);
     trace(g, &back, n, start, count)
 }

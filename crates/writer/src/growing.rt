@@ -6,7 +6,7 @@ use crate::room::put_all;
 use formula::knowing::Truth;
 use formula::knowing::known;
 use grid::edge;
-use grid::relax;
+use grid::relax_in;
 use grid::search;
 use grid::tighten;
 use ints::weights::negation;
@@ -155,7 +155,8 @@ fn side(
         return shut(cut(room, spot, kinds, truths, decided, g, last, from, to, k));
     }
     let facts = tighten(*g, from, to, k);
-    let closer = relax(*near, last + 1, from, to, k);
+    let mut closer = *near;
+    relax_in(&mut closer, last + 1, from, to, k);
     grow(
         room,
         spot,

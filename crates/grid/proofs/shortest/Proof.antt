@@ -30,12 +30,12 @@ abbrev μ-search : tie.MeasureT-search
 μ-search g n sums₀ count₀ start₀ k₀ sums count start k = n - k
 
 single-requires : tie.Need-single-requires Inv-loop μ-loop Inv-search μ-search
-single-requires c κs = (c .pre .0 .1, c .pre .1 .0)
+single-requires c κs = let z = c .before .before in (z .pre .0 .1, z .pre .1 .0, z .pre .1 .0)
 
 search-holds : tie.Need-search-holds Inv-loop μ-loop Inv-search μ-search
 search-holds c =
-    let z = c .before in
-    (search needs, refl, sums-first (now (z .args .g)) (z .args .n) (z .pre .0) (z .pre .1 .1) (z .pre .1 .0) (c .single .result) (c .single .ensures), λ j h. absurd (omega arith))
+    let z = c .before .before .before in
+    (search needs, refl, sums-first (now (z .args .g)) (z .args .n) (z .pre .0) (z .pre .1 .1) (z .pre .1 .0) _ (c .single .ensures), λ j h. absurd (omega arith))
 
 loop-holds : tie.Need-loop-holds Inv-loop μ-loop Inv-search μ-search
 loop-holds c = (search needs, c .before .search .inv .1, clear-none _ _ _)
@@ -59,12 +59,12 @@ sum-fits c = record { sfits = c .if12 .given }
 closing : (c : tie.After-if12 Inv-loop μ-loop Inv-search μ-search) →
     let l = c .before .before .loop in
     let o = c .before .before .before .before in
-    let a = o .before .before .args in
+    let a = o .before .before .before .before .args in
     getD (row (o .search .sums) (l .s)) (l .s) (pos 0) ≡ best (weight (now (a .g))) (a .n - 1) (o .search .k) (l .s) (l .s)
 closing c =
     let l = c .before .before .loop in
     let o = c .before .before .before .before in
-    let z = o .before .before in
+    let z = o .before .before .before .before in
     let s : l .s < z .args .n = c .before .loop-test .taken in
     let m : l .s < mostVertices = omega (arith, z .pre .0) in
     read mostVertices (o .search .sums) (l .s) (l .s) (o .search .inv .2 .sized) m m ∙ o .search .inv .2 .sum-is (l .s) (l .s) s s
@@ -86,7 +86,7 @@ loop-again c =
 further-requires : tie.Need-further-requires Inv-loop μ-loop Inv-search μ-search
 further-requires c κs =
     let o = c .before .before .before .before in
-    let z = o .before .before in
+    let z = o .before .before .before .before in
     (z .pre .0, (z .pre .1, (o .search .inv .2 .sized, sums-wide (now (z .args .g)) (z .args .n) (z .pre .0) (z .pre .1 .1) (o .search .k) (o .search .sums) (o .search .inv .2) (omega (arith, z .pre .0)))))
 
 add-k : tie.Need-add-k Inv-loop μ-loop Inv-search μ-search
@@ -99,17 +99,17 @@ search-again : tie.Need-search-again Inv-loop μ-loop Inv-search μ-search
 search-again c =
     let a = c .before .before in
     let o = a .before .before .before in
-    let z = o .before .before in
+    let z = o .before .before .before .before in
     let all : a .before .loop .s ≡ z .args .n = omega arith in (
       omega (arith, a .before .before .search-test .taken),
       a .before .loop .inv .1,
-      sums-next (now (z .args .g)) (z .args .n) (z .pre .0) (z .pre .1 .1) (o .search .k) (o .search .sums) (c .further .result) (o .search .inv .2) (c .further .ensures),
+      sums-next (now (z .args .g)) (z .args .n) (z .pre .0) (z .pre .1 .1) (o .search .k) (o .search .sums) _ (o .search .inv .2) (c .further .ensures),
       counts-more _ _ (z .args .n) (o .search .k) (o .search .inv .3) (rw all at (a .before .loop .inv .2)),
     )
 
 returns : tie.Need-returns Inv-loop μ-loop Inv-search μ-search
 returns c =
-    let z = c .before .before .before in
+    let z = c .before .before .before .before .before in
     let o = c .before .search in
     let m : suc (z .args .n - 1) ≡ z .args .n = omega (arith, z .pre .0) in
     rw (o .inv .1) (opens-none (weight (now (z .args .g))) (z .args .n - 1) (z .args .n) m (λ j h. o .inv .3 j (omega arith)) (o .start))
@@ -118,7 +118,7 @@ returns-2 : tie.Need-returns-2 Inv-loop μ-loop Inv-search μ-search
 returns-2 c =
     let l = c .before .before .before in
     let o = l .before .before in
-    let z = o .before .before in
+    let z = o .before .before .before .before in
     let m : suc (z .args .n - 1) ≡ z .args .n = omega (arith, z .pre .0) in
     opens-some (weight (now (z .args .g))) (z .args .n - 1) (z .args .n) m (o .search .k) (l .loop .s) (l .before .search-test .taken) (c .before .before .loop-test .taken) (o .search .inv .3) (l .loop .inv .2) (rw (closing (c .before)) at (simp (toZ-ofZ, sum-fits (c .before)) at (c .if1 .taken)))
 

@@ -11,9 +11,6 @@ use Rattle.grid.proofs.Rows.{read, sized}
 use borrow.Author.Needs.{needs}
 use Rattle.grid.proofs.tighten.Statement.{statement}
 use Rattle.grid.proofs.tighten.Tie as tie
-use Rattle.grid.proofs.tighten.Reads as reads
-use Rattle.grid.proofs.tighten.Lts as lts
-use Rattle.grid.proofs.lesser.Reads as lesser-reads
 
 mul-lesser : tie.Need-mul-lesser
 mul-lesser c = search needs
@@ -46,11 +43,11 @@ returns : tie.Need-returns
 unfolding tighten
 returns c =
     let a = c .before .before .args in
-    let old : SFits w64 (getD (row (a .t1) (a .from)) (a .to) (pos 0)) = record { sfits = c .before .lesser-arg .given } in
-    ap (λ (z : ℤ). set (a .t1) (a .from) (set (row (a .t1) (a .from)) (a .to) z))
+    let old : SFits w64 (getD (row (a .g) (a .from)) (a .to) (pos 0)) = record { sfits = c .before .lesser-arg .given } in
+    ap (λ (z : ℤ). set (a .g) (a .from) (set (row (a .g) (a .from)) (a .to) z))
     (toZ-ofZ (record { sfits = c .lesser .ok })
     ∙ (simp (toZ-ofZ, c .before .before .fits .k, old) at (c .lesser .ensures))
-    ∙ ap (λ (z : ℤ). minZ z (a .k)) (read mostVertices (a .t1) (a .from) (a .to) (sized mostVertices (a .t1) _ (c .before .before .good .0)) (c .before .before .pre .0) (c .before .before .pre .1)))
+    ∙ ap (λ (z : ℤ). minZ z (a .k)) (read mostVertices (a .g) (a .from) (a .to) (sized mostVertices (a .g) _ (c .before .before .good .0)) (c .before .before .pre .0) (c .before .before .pre .1)))
 
 pub tighten-spec : {M : Type 1} → statement M
 tighten-spec =

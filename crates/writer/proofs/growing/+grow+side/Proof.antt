@@ -17,7 +17,7 @@ use Rattle.writer.proofs.Halves.{grows-false, grows-true, grows-end, br
 use Rattle.writer.proofs.Growths.{near-within, fact-bounded, fact-fits, ready-handed}
 use borrow.Author.Needs.{needs}
 use native.Mathlib.Omega.{arith}
-use Prim.Native.Nat.{ℕ, suc, _+_, _-_, _<_}
+use Prim.Native.Nat.{ℕ, _+_, _-_, _<_}
 use borrow.Fn.Kinds.{In}
 use borrow.Fn.PlainCycle.{Measures, is, falls, and}
 use Rattle.writer.proofs.growing.grow.Reads as grow
@@ -27,7 +27,7 @@ use Rattle.writer.proofs.growing.side.Reads as side
 use Rattle.writer.proofs.growing.side.Kinds as side-kinds
 use Rattle.writer.proofs.growing.+grow+side.Lts-side as side-lts
 use Rattle.grid.proofs.edge.Reads as edge-reads
-use Rattle.grid.proofs.relax.Reads as relax-reads
+use Rattle.grid.proofs.relax_in.Reads as relax-in-reads
 use Rattle.grid.proofs.tighten.Reads as tighten-reads
 use Rattle.ints.proofs.weights.negation.Reads as negation-reads
 use Rattle.writer.proofs.growing.cut.Reads as cut-reads
@@ -61,7 +61,7 @@ abbrev grow-calls : ℕ → grow-lts.Claims
 grow-calls t = (known-so-far-reads.Asked, known-so-far-reads.Learnt, put-reads.Asked, put-reads.Learnt, shut-reads.Asked, shut-reads.Learnt, open-reads.Asked, open-reads.Learnt, with-truth-reads.Asked, with-truth-reads.Learnt, side-below t, side.Post, negation-reads.Asked, negation-reads.Learnt)
 
 abbrev side-calls : ℕ → side-lts.Claims
-side-calls t = (edge-reads.Asked, edge-reads.Learnt, cut-reads.Asked, cut-reads.Learnt, shut-reads.Asked, shut-reads.Learnt, tighten-reads.Asked, tighten-reads.Learnt, relax-reads.Asked, relax-reads.Learnt, grow-below t, grow.Post)
+side-calls t = (edge-reads.Asked, edge-reads.Learnt, cut-reads.Asked, cut-reads.Learnt, shut-reads.Asked, shut-reads.Learnt, tighten-reads.Asked, tighten-reads.Learnt, relax-in-reads.Asked, relax-in-reads.Learnt, grow-below t, grow.Post)
 
 grow-sub-decided : (t : ℕ) → grow-lts.Need-sub-decided (grow-calls t) (grow-at t) grow.Post
 grow-sub-decided t c = search needs
@@ -249,36 +249,33 @@ side-returns t c =
 side-tighten-requires : (t : ℕ) → side-lts.Need-tighten-requires (side-calls t) (side-at t) side.Post
 side-tighten-requires t c κs = search needs
 
-side-add-relax : (t : ℕ) → side-lts.Need-add-relax (side-calls t) (side-at t) side.Post
-side-add-relax t c = search needs
+side-add-relax-in : (t : ℕ) → side-lts.Need-add-relax-in (side-calls t) (side-at t) side.Post
+side-add-relax-in t c = search needs
 
-side-relax-requires : (t : ℕ) → side-lts.Need-relax-requires (side-calls t) (side-at t) side.Post
-side-relax-requires t c κs =
-    let s = c .before .before .before .before .before .before .before .before .before in
+side-relax-in-requires : (t : ℕ) → side-lts.Need-relax-in-requires (side-calls t) (side-at t) side.Post
+side-relax-in-requires t c κs =
+    let s = c .before .before .before .before .before .before .before .before .before .before in
     let a = s .args in
-    ((omega (arith, s .pre .1 .3 .few), omega (arith, s .pre .1 .2 .from-is), omega (arith, s .pre .1 .2 .to-is)), (simp (toZ-ofZ, s .fits .k) (fact-bounded (a .last) (a .from) (a .to) (a .k) (s .pre .1 .2)), simp add-one (near-within (a .last) (now (a .left)) (now (a .right)) (now (a .most)) (now (a .g)) (now (a .near)) (s .pre .1 .3))))
+    ((omega (arith, s .pre .1 .3 .few), omega (arith, s .pre .1 .2 .from-is), omega (arith, s .pre .1 .2 .to-is), s .pre .1 .3 .table), (simp (toZ-ofZ, s .fits .k) (fact-bounded (a .last) (a .from) (a .to) (a .k) (s .pre .1 .2)), simp add-one (near-within (a .last) (now (a .left)) (now (a .right)) (now (a .most)) (now (a .g)) (now (a .near)) (s .pre .1 .3))))
 
--- the facts and their closure that are handed on
+-- the facts that are handed on
 facts-are : (t : ℕ) (c : side-lts.After-tighten (side-calls t) (side-at t) side.Post) → let a = c .before .before .before .before .before .before .before .before .args in c .tighten .result ≡ tighten (now (a .g)) (a .from) (a .to) (a .k)
 facts-are t c = let s = c .before .before .before .before .before .before .before .before in c .tighten .ensures ∙ ap (tighten (now (s .args .g)) (s .args .from) (s .args .to)) (toZ-ofZ {w = w64} (s .fits .k))
 
-closer-is : (t : ℕ) (c : side-lts.After-relax (side-calls t) (side-at t) side.Post) → let a = c .before .before .before .before .before .before .before .before .before .before .args in c .relax .result ≡ tabled (relax (weight (now (a .near))) (a .from) (a .to) (a .k)) (suc (a .last)) (now (a .near))
-closer-is t c = let s = c .before .before .before .before .before .before .before .before .before .before in let a = s .args in c .relax .ensures ∙ ap₂ (λ z m. tabled (relax (weight (now (a .near))) (a .from) (a .to) z) m (now (a .near))) (toZ-ofZ {w = w64} (s .fits .k)) (add-one (a .last))
-
 side-grow-requires : (t : ℕ) → side-lts.Need-grow-requires (side-calls t) (side-at t) side.Post
 side-grow-requires t c κs =
-    let s = c .before .before .before .before .before .before .before .before .before .before .before .before .before in
+    let s = c .before .before .before .before .before .before .before .before .before .before .before .before .before .before in
     let a = s .args in
-    (omega (arith, s .pre .0), (s .pre .1 .0, s .pre .1 .1, ready-handed (a .last) (now (a .left)) (now (a .right)) (now (a .most)) (now (a .g)) (now (a .near)) (s .pre .1 .3) (a .from) (a .to) (a .k) (s .pre .1 .2) _ _ _ (sum-is t (c .before .before .before .before .before .before .before .before)) (facts-are t (c .before .before .before .before .before)) (closer-is t (c .before .before .before)) (c .before .before .before .before .before .before .before .if1 .left)))
+    (omega (arith, s .pre .0), (s .pre .1 .0, s .pre .1 .1, ready-handed (a .last) (now (a .left)) (now (a .right)) (now (a .most)) (now (a .g)) (now (a .near)) (s .pre .1 .3) (a .from) (a .to) (a .k) (s .pre .1 .2) _ _ _ (sum-is t (c .before .before .before .before .before .before .before .before .before)) (facts-are t (c .before .before .before .before .before .before)) (c .before .before .before .relax-in .ensures ∙ ap₂ (λ z m. tabled (relax (weight (now (a .near))) (a .from) (a .to) z) m (now (a .near))) (toZ-ofZ {w = w64} (s .fits .k)) (add-one (a .last))) (c .before .before .before .before .before .before .before .before .if1 .left)))
 
 side-same-length-2 : (t : ℕ) → side-lts.Need-same-length-2 (side-calls t) (side-at t) side.Post
 side-same-length-2 t c = search needs
 
 side-returns-2 : (t : ℕ) → side-lts.Need-returns-2 (side-calls t) (side-at t) side.Post
 side-returns-2 t c =
-    let s = c .before .before .before .before .before .before .before .before .before .before .before .before .before .before .before .before in
+    let s = c .before .before .before .before .before .before .before .before .before .before .before .before .before .before .before .before .before in
     let a = s .args in
-    λ F lent. side-calm (a .last) F (now (a .kinds)) (now (a .left)) (now (a .right)) (now (a .most)) lent (a .truths) (now (a .g)) (now (a .near)) (length (now (a .most)) - a .undecided) (a .from) (a .to) (a .k) _ _ _ (sum-is t (c .before .before .before .before .before .before .before .before .before .before .before)) (facts-are t (c .before .before .before .before .before .before .before .before)) (closer-is t (c .before .before .before .before .before .before)) (now (a .room)) _ (a .spot) (c .before .before .grow .result) (c .before .before .before .before .before .before .before .before .before .before .if1 .left) (s .pre .1 .3) (c .before .before .grow .ensures F lent)
+    λ F lent. side-calm (a .last) F (now (a .kinds)) (now (a .left)) (now (a .right)) (now (a .most)) lent (a .truths) (now (a .g)) (now (a .near)) (length (now (a .most)) - a .undecided) (a .from) (a .to) (a .k) _ _ _ (sum-is t (c .before .before .before .before .before .before .before .before .before .before .before .before)) (facts-are t (c .before .before .before .before .before .before .before .before .before)) (c .before .before .before .before .before .before .relax-in .ensures ∙ ap₂ (λ z m. tabled (relax (weight (now (a .near))) (a .from) (a .to) z) m (now (a .near))) (toZ-ofZ {w = w64} (s .fits .k)) (add-one (a .last))) (now (a .room)) _ (a .spot) (c .before .before .grow .result) (c .before .before .before .before .before .before .before .before .before .before .before .if1 .left) (s .pre .1 .3) (c .before .before .grow .ensures F lent)
 
 pub +grow+side-spec : {M : Type 1} → statement M
 +grow+side-spec = close μ-grow μ-side (λ t. grow-lts.spec (grow-calls t)
@@ -326,8 +323,8 @@ pub +grow+side-spec : {M : Type 1} → statement M
     (side-same-length t)
     (side-returns t)
     (side-tighten-requires t)
-    (side-add-relax t)
-    (side-relax-requires t)
+    (side-add-relax-in t)
+    (side-relax-in-requires t)
     (side-grow-requires t)
     (side-same-length-2 t)
     (side-returns-2 t)
