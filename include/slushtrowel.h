@@ -8,9 +8,9 @@
  *     asked 2   is it computable: does the old list alone tell the new one?
  *
  * Build the library with `make lib` and link target/staticlib/libcapi.a (x86-64). It calls nothing
- * (no allocation, no input or output, no global state), so the functions may be called from any
- * thread at once. They need some stack (sheets and formulas are walked by recursion, at most 320
- * deep): a thread with 8 MiB has plenty.
+ * but memcpy, memmove and memset (no allocation, no input or output, no global state), so the
+ * functions may be called from any thread at once. They need some stack, because sheets and formulas
+ * are walked by recursion: 1 MB at the most, as measured (docs/notes/stack.md).
  *
  * Every function returns 0, or the number of the refusal:
  *
