@@ -1,4 +1,4 @@
-//! Measures the library beside the oracle and z3, on the same questions in one run.
+//! Measures the library beside the oracle and z3, on the same questions in one run: `bench [WORD]`.
 //!
 //! Every time is of one core. The library and the oracle read the question's bytes; z3 reads the same
 //! formulas as SMT-LIB, those up to the first open one, in one process whose start-up is taken off.
@@ -9,7 +9,9 @@ use diff::measure::{measure, Figures};
 fn main() {
     println!("| load | questions | nodes | verdicts/s | z3, verdicts/s | library : z3 | oracle, verdicts/s | nodes written/s | nodes checked/s |");
     println!("|---|---|---|---|---|---|---|---|---|");
-    for load in loads() {
+    // with a word, only the loads that have it in their names
+    let word = std::env::args().nth(1).unwrap_or_default();
+    for load in loads().into_iter().filter(|load| load.name.contains(&word)) {
         let figures = measure(&load);
         println!("{}", row(&load, &figures));
     }
