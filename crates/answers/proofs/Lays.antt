@@ -10,17 +10,17 @@ use lib.ListN.{length, getD, length-map}
 use Rattle.meaning.specs.Contents.{Table, Change, insert, delete, modify, Question}
 use Rattle.meaning.specs.Contents as M
 use Rattle.meaning.specs.Limits.{mostRows}
-use Rattle.question.specs.Accepted.{Accepted, ChangeAccepted}
-use Rattle.formula.specs.Formulas.{Formula, inserted, unlessAlone, irrelevance, computability, formulas}
-use Rattle.formula.specs.Program.{Values}
-use Rattle.formula.proofs.Proper.{formulas-proper}
-use Rattle.sheet.specs.Rows.{fields, noBytes}
-use Rattle.formula.specs.Able.{noFormula}
-use Rattle.sheet.specs.Sheet.{lastVertex, header, sayYes, sayNo, sheetFor, findingOf}
-use Rattle.sheet.specs.Trees.{Finding, allShut, firstOpen, bytesAll}
+use Rattle.questions.specs.Accepted.{Accepted, ChangeAccepted}
+use Rattle.formulae.specs.Formulas.{Formula, inserted, unlessAlone, irrelevance, computability, formulas}
+use Rattle.formulae.specs.Program.{Values}
+use Rattle.formulae.proofs.Proper.{formulas-proper}
+use Rattle.sheets.specs.Rows.{fields, noBytes}
+use Rattle.formulae.specs.Formulas.{noFormula}
+use Rattle.sheets.specs.Sheet.{lastVertex, header, sayYes, sayNo, sheetFor, findingOf}
+use Rattle.sheets.specs.Trees.{Finding, allShut, firstOpen, bytesAll}
 use Rattle.sheet.specs.declared.types.Verdict.the-variants.{Yes, No}
-use Rattle.sheet.proofs.Findings.{no-found, opens-at}
-use Rattle.sheet.proofs.Fit.{fit-all}
+use Rattle.sheets.proofs.Findings.{no-found, opens-at}
+use Rattle.sheets.proofs.Fit.{fit-all}
 use Rattle.writer.specs.Finding.{Finds}
 use Rattle.writer.specs.Room.{filling, puts}
 use Rattle.writer.specs.Showing.{Alike}

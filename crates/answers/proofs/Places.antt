@@ -8,9 +8,9 @@ use lib.Dec.{leb, le→leb, leb→le}
 use lib.ListN.{length, take, replicate}
 use Rattle.meaning.specs.Contents.{Question}
 use Rattle.sheet.specs.Answered.{verdictOf}
-use Rattle.sheet.specs.Answers.{wrote, unwritten, placed}
-use Rattle.sheet.specs.Sheet.{verdictFor, findingOf, sheetOf}
-use Rattle.sheet.proofs.Fit.{to-true, to-false}
+use Rattle.sheets.specs.Answers.{wrote, unwritten, placed}
+use Rattle.sheets.specs.Sheet.{verdictFor, findingOf, sheetOf}
+use Rattle.sheets.proofs.Fit.{to-true, to-false}
 use Rattle.answers.specs.Laying.{StandsIf, Lays}
 use Rattle.answers.specs.declared.laying.Laid.{Laid}
 

@@ -4,8 +4,8 @@ use mathlib.Core.Path.{_≡_, sym, ap, _∙_}
 use mathlib.Core.List.{List}
 use native.Mathlib.Omega.{arith}
 use Rattle.sheet.specs.Answered as answered
-use Rattle.sheet.specs.Answers.{verdictOf, writeOf}
-use Rattle.sheet.specs.Demands.{Unique}
+use Rattle.sheets.specs.Answers.{verdictOf, writeOf}
+use Rattle.sheets.specs.Demands.{Unique}
 use Rattle.sheet.proofs.Alike.{same-verdict}
 use Rattle.answers.specs.Told.{judgedOf, writtenOf, doneOf}
 use Rattle.answers.specs.declared.types.Judged.{Judged}

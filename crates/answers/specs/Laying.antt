@@ -6,8 +6,8 @@ use mathlib.Core.List.{List}
 use lib.ListN.{length, take}
 use Rattle.meaning.specs.Contents.{Question}
 use Rattle.sheet.specs.Answered.{verdictOf}
-use Rattle.sheet.specs.Sheet.{sheetFor, verdictFor}
-use Rattle.sheet.specs.Trees.{Finding}
+use Rattle.sheets.specs.Sheet.{sheetFor, verdictFor}
+use Rattle.sheets.specs.Trees.{Finding}
 use Rattle.writer.specs.declared.room.Spot.{Spot}
 use Rattle.answers.specs.declared.laying.Laid.{Laid}
 

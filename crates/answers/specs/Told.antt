@@ -2,9 +2,9 @@
 use Prim.Native.Nat.{ℕ}
 use mathlib.Core.List.{List}
 use Rattle.sheet.specs.Answered.{verdictOf}
-use Rattle.sheet.specs.Answers.{wrote, unwritten, Done}
-use Rattle.sheet.specs.Answers as spec
-use Rattle.sheet.specs.Sheet.{Answer, says, refusal}
+use Rattle.sheets.specs.Answers.{wrote, unwritten, Done}
+use Rattle.sheets.specs.Answers as spec
+use Rattle.sheets.specs.Sheet.{Answer, says, refusal}
 use Rattle.answers.specs.declared.types.Judged.{Judged}
 use Rattle.answers.specs.declared.types.Judged.the-variants as judged
 use Rattle.answers.specs.declared.types.Written.{Written}

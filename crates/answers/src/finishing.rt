@@ -1,13 +1,13 @@
 // The answers for a question that was read.
 use crate::laying::lay;
 use crate::types::Written;
-use question::types::Question;
+use asked::types::Question;
 use writer::room::clear;
 ghost use mathlib.Core.Path.{_≡_};
-ghost use Rattle.question.specs.Held.{Held, questionOf};
-ghost use Rattle.question.specs.Accepted.{Accepted};
-ghost use Rattle.sheet.specs.Answers.{placed};
-ghost use Rattle.sheet.specs.Sheet.{verdictFor, findingOf, sheetOf};
+ghost use Rattle.asked.specs.Held.{Held, questionOf};
+ghost use Rattle.questions.specs.Accepted.{Accepted};
+ghost use Rattle.sheets.specs.Answers.{placed};
+ghost use Rattle.sheets.specs.Sheet.{verdictFor, findingOf, sheetOf};
 ghost use Rattle.answers.specs.Told.{doneOf};
 
 // The sheet and zeros after it; zeros only, where the sheet is longer than the room.

@@ -1,6 +1,6 @@
 // A sheet from the start of the room on, as far as it fits. It starts as a yes; an open formula is found only after the trees of
 // those before it were written, and then the no sheet is put over them.
-use question::types::Question;
+use asked::types::Question;
 use sheet::types::Verdict;
 use writer::finding::find;
 use writer::room::Spot;
@@ -8,9 +8,9 @@ use writer::room::put_all;
 use writer::showing::put_refutation;
 ghost use mathlib.Core.Path.{_≡_};
 ghost use mathlib.Core.List.{[], _∷_};
-ghost use Rattle.question.specs.Held.{Held, questionOf};
-ghost use Rattle.question.specs.Accepted.{Accepted};
-ghost use Rattle.sheet.specs.Sheet.{findingOf};
+ghost use Rattle.asked.specs.Held.{Held, questionOf};
+ghost use Rattle.questions.specs.Accepted.{Accepted};
+ghost use Rattle.sheets.specs.Sheet.{findingOf};
 ghost use Rattle.writer.specs.Room.{filling, puts};
 ghost use Rattle.answers.specs.Laying.{atStart, Lays};
 

@@ -6,11 +6,11 @@ pub mod types;
 use crate::finishing::finish;
 use crate::types::Judged;
 use crate::types::Written;
-use question::types::Answer;
+use asked::types::Answer;
 use sheet::asking::ask;
 use tableau::judging::judge;
 ghost use mathlib.Core.Path.{_≡_};
-ghost use Rattle.sheet.specs.Answers.{verdictOf, writeOf};
+ghost use Rattle.sheets.specs.Answers.{verdictOf, writeOf};
 ghost use Rattle.answers.specs.Told.{judgedOf, doneOf};
 
 // The verdict alone: asked 1 irrelevant, 2 computable.

@@ -7,10 +7,10 @@ use mathlib.Core.List.{List}
 use native.Mathlib.Omega.{arith}
 use lib.ListN.{length}
 use lib.Dec.{eqb, leb}
-use Rattle.question.specs.Reader.{Read, good, bad, readOf}
-use Rattle.question.proofs.Refusals.{refused-bounds}
-use Rattle.sheet.specs.Sheet.{Verdict, Answer, says, refusal, sheetOf}
-use Rattle.sheet.specs.Answers.{Written, Done, wrote, unwritten, judge, verdictOf, checkOf, writeFor, writeOf}
+use Rattle.questions.specs.Reader.{Read, good, bad, readOf}
+use Rattle.questions.proofs.Refusals.{refused-bounds}
+use Rattle.sheets.specs.Sheet.{Verdict, Answer, says, refusal, sheetOf}
+use Rattle.sheets.specs.Answers.{Written, Done, wrote, unwritten, judge, verdictOf, checkOf, writeFor, writeOf}
 use Rattle.checker.proofs.Numbers.{Given, check-given}
 use Rattle.capi.specs.Returned.{answer, writing, done}
 

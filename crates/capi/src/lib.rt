@@ -5,8 +5,8 @@ use answers::types::Written;
 use sheet::types::Checked;
 use sheet::types::Verdict;
 ghost use mathlib.Core.Path.{_≡_};
-ghost use Rattle.sheet.specs.Sheet.{verdictByte};
-ghost use Rattle.sheet.specs.Answers.{verdictOf, writeOf, checkOf};
+ghost use Rattle.sheets.specs.Sheet.{verdictByte};
+ghost use Rattle.sheets.specs.Answers.{verdictOf, writeOf, checkOf};
 ghost use Rattle.sheet.specs.Answered as answered;
 ghost use Rattle.capi.specs.Returned.{leaves, leavesRoom, answer, done};
 

@@ -11,21 +11,21 @@ use lib.IntN.{ℤ, pos}
 use lib.Signed.{ltZ}
 use Rattle.meaning.specs.Limits.{mostVertices}
 use Rattle.meaning.specs.Contents.{Question}
-use Rattle.grid.specs.Grid.{Grid, weight}
-use Rattle.grid.specs.Walk.{closed}
-use Rattle.formula.specs.Formulas.{Formula, formulas}
-use Rattle.formula.specs.Known.{Three, fails, passes, open?, known}
-use Rattle.formula.specs.Program.{Place, places, truth}
-use Rattle.formula.specs.Vertices.{Ranges, present}
-use Rattle.question.specs.Reader.{Read, good, bad, readOf}
-use Rattle.question.proofs.Refusals.{refused-bounds}
-use Rattle.sheet.specs.Facts.{start, decide}
-use Rattle.sheet.specs.Tree.{Outcome, passed, refused, andThen, Vertices, got, lacking, more, vertices, falseNode, cycleEnd, node, check}
-use Rattle.sheet.specs.Trees.{checkTrees}
-use Rattle.sheet.specs.Rows.{fieldAt, valueAt, fieldOk, fields, readValues}
-use Rattle.formula.specs.Able.{noFormula}
-use Rattle.sheet.specs.Sheet.{sayNo, Answer, says, refusal, field, yesEnd, checkYes, checkFields, noEnd, checkRows, checkNo, checkBody, marked, versioned, checkSheet}
-use Rattle.sheet.specs.Answers.{checkFor, checkOf}
+use Rattle.walks.specs.Grid.{Grid, weight}
+use Rattle.walks.specs.Walk.{closed}
+use Rattle.formulae.specs.Formulas.{Formula, formulas}
+use Rattle.formulae.specs.Known.{Three, fails, passes, open?, known}
+use Rattle.formulae.specs.Program.{Place, places, truth}
+use Rattle.formulae.specs.Vertices.{Ranges, present}
+use Rattle.questions.specs.Reader.{Read, good, bad, readOf}
+use Rattle.questions.proofs.Refusals.{refused-bounds}
+use Rattle.sheets.specs.Facts.{start, decide}
+use Rattle.sheets.specs.Tree.{Outcome, passed, refused, andThen, Vertices, got, lacking, more, vertices, falseNode, cycleEnd, node, check}
+use Rattle.sheets.specs.Trees.{checkTrees}
+use Rattle.sheets.specs.Rows.{fieldAt, valueAt, fieldOk, fields, readValues}
+use Rattle.formulae.specs.Formulas.{noFormula}
+use Rattle.sheets.specs.Sheet.{sayNo, Answer, says, refusal, field, yesEnd, checkYes, checkFields, noEnd, checkRows, checkNo, checkBody, marked, versioned, checkSheet}
+use Rattle.sheets.specs.Answers.{checkFor, checkOf}
 
 -- a number of the sheet's own
 abbrev pub Own : ℕ → Type 0

@@ -3,8 +3,8 @@ use Prim.Native.Nat.{ℕ}
 use mathlib.Core.Path.{_≡_, sym, _∙_}
 use mathlib.Core.List.{List}
 use Rattle.sheet.specs.Answered.{checkedOf}
-use Rattle.sheet.specs.Answers.{checkOf}
-use Rattle.sheet.specs.Demands.{Unique}
+use Rattle.sheets.specs.Answers.{checkOf}
+use Rattle.sheets.specs.Demands.{Unique}
 use Rattle.sheet.specs.declared.types.Checked.{Checked}
 use Rattle.sheet.proofs.Alike.{same-checked}
 

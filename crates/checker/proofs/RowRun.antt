@@ -5,10 +5,10 @@ use mathlib.Core.Bool.{Bool, true, false, cond}
 use mathlib.Core.List.{List}
 use native.Mathlib.Omega.{arith}
 use Rattle.meaning.specs.Contents.{Question}
-use Rattle.formula.specs.Formulas.{Formula}
+use Rattle.formulae.specs.Formulas.{Formula}
 use Rattle.sheet.specs.declared.rows.Reading.{Reading}
-use Rattle.sheet.specs.Rows.{fields, fieldOk}
-use Rattle.sheet.specs.Sheet.{checkFields, noEnd, checkRows}
+use Rattle.sheets.specs.Rows.{fields, fieldOk}
+use Rattle.sheets.specs.Sheet.{checkFields, noEnd, checkRows}
 use Rattle.sheet.specs.NoSheet.{afterFields, FieldsRead}
 
 -- two rows at most

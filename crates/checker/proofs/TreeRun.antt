@@ -7,18 +7,19 @@ use native.Mathlib.Omega.{arith}
 use lib.ListN.{length, drop, length-append, drop-of-length-le}
 use lib.Seq.{drop-cons, drop-drop}
 use Rattle.meaning.specs.Limits.{mostVertices}
-use Rattle.formula.specs.Formulas.{Formula}
-use Rattle.formula.specs.Able.{noFormula, formulaAt}
-use Rattle.formula.specs.Program.{places}
+use Rattle.formulae.specs.Formulas.{Formula}
+use Rattle.formulae.specs.Formulas.{noFormula}
+use Rattle.formula.specs.Able.{formulaAt}
+use Rattle.formulae.specs.Program.{places}
 use Rattle.sheet.specs.declared.nodes.Past.{Past}
 use Rattle.sheet.specs.declared.nodes.Past.the-variants.{At, Refused}
-use Rattle.sheet.specs.Facts.{start}
-use Rattle.sheet.specs.Tree.{Outcome, passed, refused, andThen, checkTree}
-use Rattle.sheet.specs.Trees.{checkTrees}
-use Rattle.sheet.specs.Sheet.{Answer, says, sayYes, refusal, yesEnd}
+use Rattle.sheets.specs.Facts.{start}
+use Rattle.sheets.specs.Tree.{Outcome, passed, refused, andThen, checkTree}
+use Rattle.sheets.specs.Trees.{checkTrees}
+use Rattle.sheets.specs.Sheet.{Answer, says, sayYes, refusal, yesEnd}
 use Rattle.sheet.specs.Checking.{outcomeOf}
-use Rattle.sheet.proofs.HandsOn.{HandsOn, check-hands}
-use Rattle.sheet.proofs.Positions.{trees-next, trees-end}
+use Rattle.sheets.proofs.HandsOn.{HandsOn, check-hands}
+use Rattle.sheets.proofs.Positions.{trees-next, trees-end}
 
 -- ---- a tree ends, or is refused, within the part that was lent
 

@@ -1,12 +1,12 @@
 // The fields before the trees or the rows, in order: each is tested for length, then for its value.
 use crate::no::no_sheet;
 use crate::yes::yes_sheet;
-use question::types::Question;
+use asked::types::Question;
 use sheet::types::Checked;
 ghost use mathlib.Core.Path.{_≡_};
-ghost use Rattle.question.specs.Held.{Held, questionOf};
-ghost use Rattle.question.specs.Accepted.{Accepted};
-ghost use Rattle.sheet.specs.Sheet.{checkSheet};
+ghost use Rattle.asked.specs.Held.{Held, questionOf};
+ghost use Rattle.questions.specs.Accepted.{Accepted};
+ghost use Rattle.sheets.specs.Sheet.{checkSheet};
 ghost use Rattle.sheet.specs.Answered.{checkedOf};
 ghost use Rattle.checker.specs.Header.{fromAsked};
 

@@ -1,10 +1,10 @@
 // The check of a sheet against a question, over bytes. The definitions are those of crate sheet.
 use crate::header::from_mark;
-use question::types::Answer;
+use asked::types::Answer;
 use sheet::asking::ask;
 use sheet::types::Checked;
 ghost use mathlib.Core.Path.{_≡_};
-ghost use Rattle.sheet.specs.Answers.{checkOf};
+ghost use Rattle.sheets.specs.Answers.{checkOf};
 ghost use Rattle.sheet.specs.Answered.{checkedOf};
 
 mod header;

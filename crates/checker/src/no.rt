@@ -1,8 +1,8 @@
 // A no sheet: the number of a formula, the values of its rows, and then the end.
+use asked::types::Question;
 use formula::formulas::formula;
 use formula::formulas::formula_count;
-use formula::types::Formula;
-use question::types::Question;
+use programs::types::Formula;
 use sheet::compiled::formula_met;
 use sheet::rows::Reading;
 use sheet::rows::fields;
@@ -14,13 +14,13 @@ ghost use Prim.Native.Nat.{_+_, _≤_, _<_};
 ghost use lib.ListN.{length};
 ghost use Rattle.meaning.specs.Contents as meant;
 ghost use Rattle.meaning.specs.Limits.{mostColumns, mostVertices};
-ghost use Rattle.question.specs.Held.{Held, questionOf};
-ghost use Rattle.question.specs.Accepted.{Accepted};
-ghost use Rattle.formula.specs.Formulas.{formulas};
-ghost use Rattle.formula.specs.Formulas as spec;
-ghost use Rattle.formula.specs.Spans.{Compiled};
-ghost use Rattle.sheet.specs.Rows as rows;
-ghost use Rattle.sheet.specs.Sheet.{says, sayNo, refusal, noEnd, checkRows, checkNo};
+ghost use Rattle.asked.specs.Held.{Held, questionOf};
+ghost use Rattle.questions.specs.Accepted.{Accepted};
+ghost use Rattle.formulae.specs.Formulas.{formulas};
+ghost use Rattle.formulae.specs.Formulas as spec;
+ghost use Rattle.sights.specs.Spans.{Compiled};
+ghost use Rattle.sheets.specs.Rows as rows;
+ghost use Rattle.sheets.specs.Sheet.{says, sayNo, refusal, noEnd, checkRows, checkNo};
 ghost use Rattle.sheet.specs.Answered.{checkedOf};
 ghost use Rattle.sheet.specs.Checking.{Fine};
 

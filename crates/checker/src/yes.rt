@@ -1,7 +1,7 @@
 // A yes sheet: one tree per formula, and then the end.
+use asked::types::Question;
 use formula::formulas::formula;
 use formula::formulas::formula_count;
-use question::types::Question;
 use sheet::compiled::formula_tree;
 use sheet::nodes::Past;
 use sheet::types::Checked;
@@ -9,10 +9,10 @@ use sheet::types::Verdict;
 ghost use mathlib.Core.Path.{_≡_};
 ghost use Prim.Native.Nat.{_≤_};
 ghost use lib.ListN.{length};
-ghost use Rattle.question.specs.Held.{Held, questionOf};
-ghost use Rattle.question.specs.Accepted.{Accepted};
-ghost use Rattle.formula.specs.Formulas.{formulas};
-ghost use Rattle.sheet.specs.Sheet.{checkYes};
+ghost use Rattle.asked.specs.Held.{Held, questionOf};
+ghost use Rattle.questions.specs.Accepted.{Accepted};
+ghost use Rattle.formulae.specs.Formulas.{formulas};
+ghost use Rattle.sheets.specs.Sheet.{checkYes};
 ghost use Rattle.sheet.specs.Answered.{checkedOf};
 
 // Each tree's check is lent the part of the sheet after the last one's end.

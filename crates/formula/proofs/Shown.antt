@@ -10,22 +10,22 @@ use lib.Seq.{getD-take}
 use Rattle.meaning.specs.Condition.{unequal}
 use Rattle.meaning.specs.Contents.{Range, Mode}
 use Rattle.meaning.specs.Trouble.{modeAt, kept}
-use Rattle.question.specs.Layout.{visibleFrom, questionFrom}
-use Rattle.question.specs.Layout as L
-use Rattle.question.specs.Held.{columnOf, questionOf}
-use Rattle.question.specs.Held as H
-use Rattle.question.specs.declared.types.Question.{Question}
-use Rattle.formula.specs.Program.{orI}
-use Rattle.formula.specs.Compile.{comparison}
-use Rattle.formula.specs.Compile as C
-use Rattle.formula.specs.Formulas.{differsNew, differsOver}
-use Rattle.formula.specs.Built.{Room, Builds}
-use Rattle.formula.specs.Seen.{noColumn, modesOf, modeIn, sightOf, There, Whole}
-use Rattle.formula.specs.Partway.{Partway, differsAt}
-use Rattle.formula.specs.declared.types.Program.{Program}
-use Rattle.formula.specs.declared.types.Sight.{Sight}
-use Rattle.formula.proofs.Shapes.{ranges-length}
-use Rattle.formula.proofs.Stepwise.{begin, next, piece-room, piece, finish}
+use Rattle.questions.specs.Layout.{visibleFrom, questionFrom}
+use Rattle.questions.specs.Layout as L
+use Rattle.asked.specs.Held.{columnOf, questionOf}
+use Rattle.asked.specs.Held as H
+use Rattle.asked.specs.declared.types.Question.{Question}
+use Rattle.formulae.specs.Program.{orI}
+use Rattle.formulae.specs.Compile.{comparison}
+use Rattle.formulae.specs.Compile as C
+use Rattle.formulae.specs.Formulas.{differsNew, differsOver}
+use Rattle.programs.specs.Built.{Room, Builds}
+use Rattle.sights.specs.Seen.{noColumn, modesOf, modeIn, sightOf, There, Whole}
+use Rattle.sights.specs.Partway.{Partway, differsAt}
+use Rattle.programs.specs.declared.types.Program.{Program}
+use Rattle.programs.specs.declared.types.Sight.{Sight}
+use Rattle.sights.proofs.Shapes.{ranges-length}
+use Rattle.sights.proofs.Stepwise.{begin, next, piece-room, piece, finish}
 
 -- ---- one column
 

@@ -11,17 +11,18 @@ use Rattle.meaning.specs.Condition as M
 use Rattle.meaning.specs.Contents.{Mode, become}
 use Rattle.meaning.specs.Contents as M'
 use Rattle.meaning.specs.WellFormed.{Reads}
-use Rattle.question.specs.Held.{conditionOf, settingOf}
-use Rattle.question.specs.Held as H
-use Rattle.question.specs.declared.types.Question.{Question}
-use Rattle.question.specs.declared.types.Setting.{Setting}
-use Rattle.question.specs.declared.types.Row.{Row}
-use Rattle.question.specs.declared.types.Verb.{Verb}
-use Rattle.question.specs.declared.types.Verb.the-variants.{Insert, Delete, Modify}
-use Rattle.formula.specs.Formulas as F
-use Rattle.formula.specs.Seen.{There, Whole, Usable, modesOf}
-use Rattle.formula.specs.Partway.{Ready}
-use Rattle.formula.specs.declared.types.Sight.{Sight}
+use Rattle.asked.specs.Held.{conditionOf, settingOf}
+use Rattle.asked.specs.Held as H
+use Rattle.asked.specs.declared.types.Question.{Question}
+use Rattle.asked.specs.declared.types.Setting.{Setting}
+use Rattle.asked.specs.declared.types.Row.{Row}
+use Rattle.asked.specs.declared.types.Verb.{Verb}
+use Rattle.asked.specs.declared.types.Verb.the-variants.{Insert, Delete, Modify}
+use Rattle.formulae.specs.Formulas as F
+use Rattle.formulae.specs.Formulas.{noFormula}
+use Rattle.sights.specs.Seen.{There, Whole, Usable, modesOf}
+use Rattle.sights.specs.Partway.{Ready}
+use Rattle.programs.specs.declared.types.Sight.{Sight}
 
 -- the modify's modes
 abbrev pub settledModes : Question → List Mode
@@ -56,10 +57,6 @@ pub record Views (q : Question) (second moved : Bool) (r : Sight) : Type 0 where
   pub is : r ≡ rowOf q second moved
   pub usable : Usable q r
   pub moves : r .moved ≡ moved
-
--- no formula: past the end of a list of them
-abbrev pub noFormula : F.Formula
-noFormula = record { ranges = []; pairs = false; program = [] }
 
 abbrev pub formulaAt : List F.Formula → ℕ → F.Formula
 formulaAt l i = getD l i noFormula

@@ -1,12 +1,1 @@
-pub mod Program
-pub mod Compile
-pub mod Parts
-pub mod Known
-pub mod Vertices
-pub mod Formulas
-pub mod Cells
-pub mod Built
-pub mod Seen
-pub mod Partway
-pub mod Spans
 pub mod Able

@@ -8,17 +8,17 @@ use crate::troubles::one_removed;
 use crate::troubles::one_stays;
 use crate::troubles::removed;
 use crate::troubles::shows;
-use crate::types::Formula;
-use question::types::Question;
-use question::types::Verb;
+use asked::types::Question;
+use asked::types::Verb;
+use programs::types::Formula;
 ghost use mathlib.Core.Path.{_≡_};
 ghost use Prim.Native.Nat.{_<_};
 ghost use lib.ListN.{length};
 ghost use Rattle.meaning.specs.Contents.{delete, modify};
-ghost use Rattle.question.specs.Held.{questionOf, Held};
-ghost use Rattle.question.specs.Accepted.{Accepted};
-ghost use Rattle.formula.specs.Formulas.{formulas};
-ghost use Rattle.formula.specs.Spans.{Compiled};
+ghost use Rattle.asked.specs.Held.{questionOf, Held};
+ghost use Rattle.questions.specs.Accepted.{Accepted};
+ghost use Rattle.formulae.specs.Formulas.{formulas};
+ghost use Rattle.sights.specs.Spans.{Compiled};
 ghost use Rattle.formula.specs.Able.{Able, Widths, Chooses, Modifies, Buildable, deed, settledModes, formulaAt, askedOf};
 
 pub fn deleted(q: Question, asked: u8) -> Formula

@@ -1,19 +1,19 @@
 // "Insert: for each row, C with that row's values put in."
-use crate::build::blank;
 use crate::listing::relisted;
 use crate::listing::single;
-use crate::types::Formula;
-use crate::types::Sight;
-use question::types::Mode;
-use question::types::Question;
-use question::types::Row;
-use question::types::Setting;
+use asked::types::Mode;
+use asked::types::Question;
+use asked::types::Row;
+use asked::types::Setting;
+use programs::build::blank;
+use programs::types::Formula;
+use programs::types::Sight;
 ghost use mathlib.Core.List.{map};
 ghost use Prim.Native.Nat.{_<_};
 ghost use lib.ListN.{take};
-ghost use Rattle.question.specs.Held.{rowOf, questionOf};
-ghost use Rattle.formula.specs.Formulas as trouble;
-ghost use Rattle.formula.specs.Spans.{Compiled};
+ghost use Rattle.asked.specs.Held.{rowOf, questionOf};
+ghost use Rattle.formulae.specs.Formulas as trouble;
+ghost use Rattle.sights.specs.Spans.{Compiled};
 ghost use Rattle.formula.specs.Able.{Able, Becomes, PutIn, formulaAt};
 
 // Each column becomes the row's value.

@@ -1,23 +1,23 @@
 // "Some visible column not kept has new ≠ old, joined by or in column order (false if there is none)": of any two sights.
-use crate::build::compare;
-use crate::build::emit;
-use crate::joining::kept;
-use crate::seeing::mode_at;
-use crate::seeing::term_at;
-use crate::types::Joint;
-use crate::types::Program;
-use crate::types::Sight;
-use question::types::Op;
-use question::types::Question;
+use asked::types::Op;
+use asked::types::Question;
+use programs::build::compare;
+use programs::build::emit;
+use programs::types::Joint;
+use programs::types::Program;
+use programs::types::Sight;
+use sights::joining::kept;
+use sights::seeing::mode_at;
+use sights::seeing::term_at;
 ghost use mathlib.Core.Path.{_≡_};
 ghost use mathlib.Core.Bool.{true};
 ghost use Rattle.meaning.specs.Trouble.{modeAt};
-ghost use Rattle.question.specs.Held.{questionOf};
-ghost use Rattle.formula.specs.Formulas.{differsOver};
-ghost use Rattle.formula.specs.Formulas as trouble;
-ghost use Rattle.formula.specs.Built.{Room, Builds};
-ghost use Rattle.formula.specs.Seen.{sightOf, modesOf, There, Usable};
-ghost use Rattle.formula.specs.Partway.{differsAt};
+ghost use Rattle.asked.specs.Held.{questionOf};
+ghost use Rattle.formulae.specs.Formulas.{differsOver};
+ghost use Rattle.formulae.specs.Formulas as trouble;
+ghost use Rattle.programs.specs.Built.{Room, Builds};
+ghost use Rattle.sights.specs.Seen.{sightOf, modesOf, There, Usable};
+ghost use Rattle.sights.specs.Partway.{differsAt};
 
 // Column i; nothing where it is hidden or kept.
 pub fn differs_at(p: Program, q: Question, a: Sight, b: Sight, i: usize) -> Program

@@ -1,6 +1,4 @@
 // The trouble lists of a delete and a modify, one function a formula.
-use crate::build::blank;
-use crate::build::emit;
 use crate::listing::and_listed;
 use crate::listing::and_relisted;
 use crate::listing::both_listed;
@@ -14,13 +12,15 @@ use crate::listing::single;
 use crate::listing::staying;
 use crate::listing::unmoved;
 use crate::telling::differs;
-use crate::types::Formula;
-use crate::types::Joint;
-use question::types::Question;
+use asked::types::Question;
+use programs::build::blank;
+use programs::build::emit;
+use programs::types::Formula;
+use programs::types::Joint;
 ghost use Rattle.meaning.specs.Contents.{delete, modify};
-ghost use Rattle.question.specs.Held.{questionOf};
-ghost use Rattle.formula.specs.Formulas.{irrelevance, computability, entering};
-ghost use Rattle.formula.specs.Spans.{Compiled};
+ghost use Rattle.asked.specs.Held.{questionOf};
+ghost use Rattle.formulae.specs.Formulas.{irrelevance, computability, entering};
+ghost use Rattle.sights.specs.Spans.{Compiled};
 ghost use Rattle.formula.specs.Able.{Chooses, Modifies, deed, settledModes, formulaAt};
 
 // "C and D"

@@ -6,14 +6,14 @@ use Prim.Native.Nat.{ℕ, zero, suc, _+_, _≤_}
 use native.Mathlib.Omega.{arith}
 use lib.ListN.{take, drop}
 use lib.Seq.{take-take}
-use Rattle.question.specs.Layout as L
-use Rattle.question.specs.Reader.{Read, bad, changeAt, fromVisible, fromCondition}
-use Rattle.question.specs.Held.{Reads, ShapeHeld, widthsOf, columnOf}
-use Rattle.question.specs.Pieces.{rangesAt}
-use Rattle.question.specs.Shapes.{some}
-use Rattle.question.specs.declared.types.Column.{Column}
-use Rattle.question.specs.declared.types.Shape.{Shape}
-use Rattle.question.specs.declared.types.Reading.{Reading}
+use Rattle.questions.specs.Layout as L
+use Rattle.questions.specs.Reader.{Read, bad, changeAt, fromVisible, fromCondition}
+use Rattle.asked.specs.Held.{Reads, ShapeHeld, widthsOf, columnOf}
+use Rattle.asked.specs.Parts.{rangesAt}
+use Rattle.tables.specs.Shapes.{some}
+use Rattle.asked.specs.declared.types.Column.{Column}
+use Rattle.asked.specs.declared.types.Shape.{Shape}
+use Rattle.asked.specs.declared.types.Reading.{Reading}
 
 -- the same answer, said otherwise
 pub reads-as : {r : Reading} {o u : Read} → o ≡ u → Reads r o → Reads r u

@@ -5,17 +5,17 @@ use mathlib.Core.List.{List}
 use Prim.Native.Nat.{ℕ}
 use native.Mathlib.Omega.{arith}
 use Rattle.meaning.specs.Contents as M
-use Rattle.question.specs.Reader.{good, bad, readOf}
-use Rattle.question.specs.Held.{questionOf, meantBy, Reads}
-use Rattle.question.specs.Accepted.{Accepted}
-use Rattle.question.specs.Fields.{fieldsOf, questionIn}
-use Rattle.question.specs.Faults.{AllSaid, FirstFault}
-use Rattle.question.specs.declared.types.Answer.{Answer}
-use Rattle.question.specs.declared.types.Answer.the-variants.{Good, Refused}
-use Rattle.question.specs.declared.types.Question.{Question}
-use Rattle.question.specs.declared.types.Reading.{Reading}
-use Rattle.question.proofs.Accepts.{accepted}
-use Rattle.question.proofs.Refusals.{refused, taken}
+use Rattle.questions.specs.Reader.{good, bad, readOf}
+use Rattle.asked.specs.Held.{questionOf, meantBy, Reads}
+use Rattle.questions.specs.Accepted.{Accepted}
+use Rattle.questions.specs.Fields.{fieldsOf, questionIn}
+use Rattle.questions.specs.Faults.{AllSaid, FirstFault}
+use Rattle.asked.specs.declared.types.Answer.{Answer}
+use Rattle.asked.specs.declared.types.Answer.the-variants.{Good, Refused}
+use Rattle.asked.specs.declared.types.Question.{Question}
+use Rattle.asked.specs.declared.types.Reading.{Reading}
+use Rattle.questions.proofs.Accepts.{accepted}
+use Rattle.questions.proofs.Refusals.{refused, taken}
 
 -- an answer is known by what it means
 is-refused : (a : Answer) (q : Question) (n p : ℕ) → meantBy a q ≡ bad n p → a ≡ Refused n p

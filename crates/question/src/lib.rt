@@ -1,21 +1,11 @@
 // Questions: the declared types, and the reader that gives every byte string its answer.
-ghost use Rattle.question.specs.Reader.{readOf};
-ghost use Rattle.question.specs.Held.{Reads};
+ghost use Rattle.questions.specs.Reader.{readOf};
+ghost use Rattle.asked.specs.Held.{Reads};
 use crate::reader::from_version;
 use crate::reader::refusal;
-use crate::types::Reading;
+use asked::types::Reading;
 
-pub mod change;
-pub mod columns;
-pub mod condition;
-pub mod fields;
-pub mod limits;
-pub mod modes;
 pub mod reader;
-pub mod rows;
-pub mod token;
-pub mod types;
-pub mod widths;
 
 // The answer to any byte string; the mark `VUQ` is 86 85 81.
 pub fn read(s: &[u8]) -> Reading

@@ -1,5 +1,5 @@
 // A string with a byte or a number changed, and the answer to its first bytes.
-use question::types::Answer;
+use asked::types::Answer;
 
 pub fn with_byte(b: [u8; 112], at: usize, x: u8) -> [u8; 112] {
     let mut c = b;

@@ -4,15 +4,15 @@ use mathlib.Core.Path.{_≡_, sym, ap, subst, _∙_}
 use mathlib.Core.Bool.{_||_}
 use mathlib.Core.List.{List}
 use lib.Dec.{eqb}
-use Rattle.question.specs.Accepted.{Accepted}
-use Rattle.question.specs.Held.{Held, HeldIf, Reads, questionOf, meantBy}
-use Rattle.question.specs.Reader.{bad, readOf}
-use Rattle.question.specs.declared.types.Answer.{Answer}
-use Rattle.question.specs.declared.types.Answer.the-variants.{Good}
-use Rattle.question.specs.declared.types.Reading.{Reading}
-use Rattle.question.proofs.Accepts.{read-holds}
-use Rattle.question.proofs.Holds.{Holds, cond-holds}
-use Rattle.sheet.specs.Answers.{askedOf}
+use Rattle.questions.specs.Accepted.{Accepted}
+use Rattle.asked.specs.Held.{Held, HeldIf, Reads, questionOf, meantBy}
+use Rattle.questions.specs.Reader.{bad, readOf}
+use Rattle.asked.specs.declared.types.Answer.{Answer}
+use Rattle.asked.specs.declared.types.Answer.the-variants.{Good}
+use Rattle.asked.specs.declared.types.Reading.{Reading}
+use Rattle.questions.proofs.Accepts.{read-holds}
+use Rattle.questions.proofs.Holds.{Holds, cond-holds}
+use Rattle.sheets.specs.Answers.{askedOf}
 
 module _ (a : ℕ) (s : List ℕ) (r : Reading) (h : Reads r (askedOf a s)) where
   pub asked-means : (x : Answer) → r .answer ≡ x → askedOf a s ≡ meantBy x (r .question)

@@ -10,18 +10,18 @@ use lib.IntN.{ℤ, pos}
 use lib.ListN.{length, getD, take, length-map}
 use Rattle.meaning.specs.Limits.{mostVertices}
 use Rattle.meaning.specs.Contents.{Range}
-use Rattle.question.specs.Accepted.{Every}
-use Rattle.grid.specs.Walk.{Below}
-use Rattle.grid.specs.Grid.{least-weight, Bounded}
-use Rattle.formula.specs.Program.{Place, places}
-use Rattle.formula.specs.Vertices.{Ranges, isSome, present}
-use Rattle.formula.specs.Formulas.{Formula}
-use Rattle.formula.specs.Spans.{Compiled}
-use Rattle.formula.specs.declared.types.Formula as compiled
-use Rattle.formula.proofs.Sizes.{SmallPlace}
-use Rattle.formula.proofs.Proper.{SmallRange, Proper}
+use Rattle.questions.specs.Accepted.{Every}
+use Rattle.walks.specs.Walk.{Below}
+use Rattle.walks.specs.Grid.{least-weight, Bounded}
+use Rattle.formulae.specs.Program.{Place, places}
+use Rattle.formulae.specs.Vertices.{Ranges, isSome, present}
+use Rattle.formulae.specs.Formulas.{Formula}
+use Rattle.sights.specs.Spans.{Compiled}
+use Rattle.programs.specs.declared.types.Formula as compiled
+use Rattle.formulae.proofs.Sizes.{SmallPlace}
+use Rattle.formulae.proofs.Proper.{SmallRange, Proper}
 use Rattle.sheet.specs.Checking.{Shows, Lent, Places, Spanned, SmallSpans}
-use Rattle.sheet.proofs.Fit.{present-below}
+use Rattle.sheets.proofs.Fit.{present-below}
 
 below-places : (rs : Ranges) (f : Place → ℕ) (ps : List Place) → length rs < mostVertices → Every (λ p. T (present rs (f p))) ps → Below mostVertices (map f ps)
 below-places rs f [] h a = tt

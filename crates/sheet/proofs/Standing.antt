@@ -9,17 +9,17 @@ use lib.ListN.{length, getD, set, take, drop, drop-of-length-le, length-map, Lis
 use lib.Seq.{drop-cons, take-suc-set, set-set}
 use lib.IntN.{ℤ, pos}
 use Rattle.meaning.specs.Limits.{mostVertices}
-use Rattle.grid.specs.Grid.{Grid}
-use Rattle.formula.specs.Cells.{bit}
-use Rattle.formula.specs.Known.{knownKinds}
-use Rattle.formula.specs.Program.{Program, Place, places, kindsOf}
-use Rattle.formula.specs.Formulas.{Formula}
-use Rattle.formula.proofs.Knows.{known-kinds}
-use Rattle.sheet.specs.Facts.{start, decide}
-use Rattle.sheet.specs.Sheet.{lastVertex}
-use Rattle.sheet.specs.Tree.{Outcome, passed, refused, andThen, falseNode, cycleNode, check, checkTree}
+use Rattle.walks.specs.Grid.{Grid}
+use Rattle.knowing.specs.Cells.{bit}
+use Rattle.formulae.specs.Known.{knownKinds}
+use Rattle.formulae.specs.Program.{Program, Place, places, kindsOf}
+use Rattle.formulae.specs.Formulas.{Formula}
+use Rattle.formulae.proofs.Knows.{known-kinds}
+use Rattle.sheets.specs.Facts.{start, decide}
+use Rattle.sheets.specs.Sheet.{lastVertex}
+use Rattle.sheets.specs.Tree.{Outcome, passed, refused, andThen, falseNode, cycleNode, check, checkTree}
 use Rattle.sheet.specs.Checking.{Lent, placeAt, checkLeft}
-use Rattle.sheet.proofs.Steps.{check-false, check-cycle, check-empty, check-split, check-split-none}
+use Rattle.sheets.proofs.Steps.{check-false, check-cycle, check-empty, check-split, check-split-none}
 
 abbrev pub nowhere : Place
 nowhere = record { left = 0; right = 0; most = pos 0 }

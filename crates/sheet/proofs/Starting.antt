@@ -14,10 +14,10 @@ use borrow.Author.Tests.{ltb-true, ltb-false}
 use Rattle.ints.proofs.Bridge.{ints, neg-up, neg-dn}
 use Rattle.ints.proofs.Machine.{diff}
 use Rattle.meaning.specs.Contents.{Range}
-use Rattle.grid.specs.Grid.{Grid, farN, least-weight, Bounded, AllWithin, blank}
-use Rattle.grid.proofs.Grids.{tighten-keeps, blank-far}
-use Rattle.formula.specs.Vertices.{Ranges, isSome}
-use Rattle.sheet.specs.Facts.{confine, confineAll}
+use Rattle.walks.specs.Grid.{Grid, farN, least-weight, Bounded, AllWithin, blank}
+use Rattle.walks.proofs.Grids.{tighten-keeps, blank-far}
+use Rattle.formulae.specs.Vertices.{Ranges, isSome}
+use Rattle.sheets.specs.Facts.{confine, confineAll}
 use Rattle.sheet.specs.Checking.{Spanned, SmallSpans}
 
 pub opposite : (k : ℤ) → pos 0 -ℤ k ≡ negℤ k

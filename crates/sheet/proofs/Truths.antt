@@ -8,11 +8,11 @@ use lib.IntN.{ℤ, pos, _+ℤ_}
 use lib.Signed.{leZ}
 use lib.ListN.{length, getD, take, length-map, List·getD-map}
 use lib.Seq.{getD-take, length-take-le}
-use Rattle.formula.specs.Cells.{bit}
-use Rattle.formula.specs.Program.{Values, Place, test, truth, places}
-use Rattle.formula.specs.Known.{Three, fails, passes, open?, known, knownKinds}
-use Rattle.formula.specs.Formulas.{Formula}
-use Rattle.formula.proofs.Knows.{Agrees, Says, Sure, known-says, known-sure, known-kinds}
+use Rattle.knowing.specs.Cells.{bit}
+use Rattle.formulae.specs.Program.{Values, Place, test, truth, places}
+use Rattle.formulae.specs.Known.{Three, fails, passes, open?, known, knownKinds}
+use Rattle.formulae.specs.Formulas.{Formula}
+use Rattle.formulae.proofs.Knows.{Agrees, Says, Sure, known-says, known-sure, known-kinds}
 use Rattle.sheet.specs.Checking.{Lent}
 use Rattle.sheet.specs.NoSheet.{testAt, Tested}
 use Rattle.sheet.proofs.Standing.{nowhere, lent-length, lent-place}

@@ -13,13 +13,13 @@ use lib.Seq.{getD-set-same, getD-set-other}
 use mir.Syntax.{w32, w64}
 use mir.Val.{SFits}
 use Rattle.ints.proofs.Machine.{machine, of-fits}
-use Rattle.grid.specs.Grid.{Bounded, least-weight}
-use Rattle.formula.specs.Cells.{bit}
+use Rattle.walks.specs.Grid.{Bounded, least-weight}
+use Rattle.knowing.specs.Cells.{bit}
 use Rattle.meaning.specs.Contents.{Question}
-use Rattle.formula.specs.Formulas.{Formula, tabulate}
-use Rattle.sheet.specs.Rows.{width, fields, valueAt, readValues}
+use Rattle.formulae.specs.Formulas.{Formula, tabulate}
+use Rattle.sheets.specs.Rows.{width, fields, valueAt, readValues}
 use Rattle.sheet.specs.NoSheet.{seen, Small, testAt}
-use Rattle.sheet.proofs.Values.{tabulate-same}
+use Rattle.sheets.proofs.Values.{tabulate-same}
 
 -- ---- the array of values
 

@@ -3,8 +3,8 @@ use Rattle.sheet.specs.declared.types.Verdict.{Verdict}
 use Rattle.sheet.specs.declared.types.Verdict.the-variants.{Yes, No}
 use Rattle.sheet.specs.declared.types.Checked.{Checked}
 use Rattle.sheet.specs.declared.types.Checked.the-variants.{Passes, Refused}
-use Rattle.sheet.specs.Sheet.{sayYes, sayNo, Answer, says, refusal}
-use Rattle.sheet.specs.Sheet as spec
+use Rattle.sheets.specs.Sheet.{sayYes, sayNo, Answer, says, refusal}
+use Rattle.sheets.specs.Sheet as spec
 
 abbrev pub verdictOf : Verdict → spec.Verdict
 verdictOf Yes = sayYes

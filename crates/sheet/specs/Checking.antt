@@ -8,21 +8,21 @@ use lib.ListN.{length, take, drop, getD}
 use lib.IntN.{ℤ, pos}
 use Rattle.meaning.specs.Limits.{mostVertices, mostDecisions}
 use Rattle.meaning.specs.Contents.{Range}
-use Rattle.grid.specs.Grid.{Grid, farN, least-weight, Bounded, AllWithin}
-use Rattle.grid.specs.Walk.{Below}
-use Rattle.formula.specs.Program.{Program, Place, places, kindsOf}
-use Rattle.formula.specs.Formulas.{Formula}
-use Rattle.formula.specs.Spans.{Compiled}
-use Rattle.formula.specs.declared.types.Formula as compiled
-use Rattle.formula.proofs.Proper.{Proper}
-use Rattle.formula.specs.Cells.{bit}
-use Rattle.formula.specs.Vertices.{Ranges, present}
+use Rattle.walks.specs.Grid.{Grid, farN, least-weight, Bounded, AllWithin}
+use Rattle.walks.specs.Walk.{Below}
+use Rattle.formulae.specs.Program.{Program, Place, places, kindsOf}
+use Rattle.formulae.specs.Formulas.{Formula}
+use Rattle.sights.specs.Spans.{Compiled}
+use Rattle.programs.specs.declared.types.Formula as compiled
+use Rattle.formulae.proofs.Proper.{Proper}
+use Rattle.knowing.specs.Cells.{bit}
+use Rattle.formulae.specs.Vertices.{Ranges, present}
 use Rattle.sheet.specs.declared.nodes.Past.{Past}
 use Rattle.sheet.specs.declared.nodes.Past.the-variants.{At, Refused}
 use Rattle.sheet.specs.declared.nodes.Naming.{Naming}
 use Rattle.sheet.specs.declared.nodes.Naming.the-variants.{All, Lacking}
-use Rattle.sheet.specs.Facts.{start}
-use Rattle.sheet.specs.Tree.{Outcome, passed, refused, Vertices, got, lacking, vertices, check}
+use Rattle.sheets.specs.Facts.{start}
+use Rattle.sheets.specs.Tree.{Outcome, passed, refused, Vertices, got, lacking, vertices, check}
 
 -- positions are those of the part that was lent, which starts at offset base
 abbrev pub outcomeOf : ℕ → List ℕ → Past → Outcome

@@ -1,13 +1,3 @@
-pub mod Facts
-pub mod Tree
-pub mod Grow
-pub mod Trees
-pub mod Rows
-pub mod Sheet
-pub mod Answers
-pub mod Fast
-pub mod Demands
 pub mod Checking
-pub mod Twelve
 pub mod NoSheet
 pub mod Answered

@@ -7,12 +7,12 @@ use lib.ListN.{length, getD}
 use lib.IntN.{ℤ, pos, _+ℤ_}
 use lib.Dec.{ltb}
 use lib.Signed.{leZ}
-use Rattle.grid.specs.Grid.{Bounded}
-use Rattle.formula.specs.Cells.{bit}
+use Rattle.walks.specs.Grid.{Bounded}
+use Rattle.knowing.specs.Cells.{bit}
 use Rattle.sheet.specs.declared.rows.Reading.{Reading}
 use Rattle.sheet.specs.declared.rows.Reading.the-variants.{All, Refused}
-use Rattle.sheet.specs.Rows.{fieldAt, valueAt}
-use Rattle.sheet.specs.Sheet.{Answer, refusal, checkFields}
+use Rattle.sheets.specs.Rows.{fieldAt, valueAt}
+use Rattle.sheets.specs.Sheet.{Answer, refusal, checkFields}
 
 -- what the later fields come to, after those that were read
 abbrev pub afterFields : Reading → Answer → Answer

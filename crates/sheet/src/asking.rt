@@ -1,9 +1,9 @@
 // "Order: 20, then the question".
+use asked::types::Reading;
 use question::read;
 use question::reader::refusal;
-use question::types::Reading;
-ghost use Rattle.question.specs.Held.{Reads};
-ghost use Rattle.sheet.specs.Answers.{askedOf};
+ghost use Rattle.asked.specs.Held.{Reads};
+ghost use Rattle.sheets.specs.Answers.{askedOf};
 
 // The question, or why there is none.
 pub fn ask(asked: u8, question: &[u8]) -> Reading

@@ -2,9 +2,9 @@
 ghost use mathlib.Core.Path.{_≡_};
 ghost use Prim.Native.Nat.{_<_};
 ghost use mathlib.Core.Option.{some};
-ghost use Rattle.grid.specs.Grid.{Bounded, farN};
+ghost use Rattle.walks.specs.Grid.{Bounded, farN};
 ghost use Rattle.meaning.specs.Limits.{mostVertices};
-ghost use Rattle.sheet.specs.Facts.{confine, decide};
+ghost use Rattle.sheets.specs.Facts.{confine, decide};
 ghost use Rattle.sheet.specs.Checking.{SmallSpans, Starts};
 
 // The place left − right ≤ most taken as true, or as false: an edge from right to left with weight most, or back with −1 − most.

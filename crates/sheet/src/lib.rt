@@ -1,5 +1,4 @@
 // The definitions stand in specs/, the laws of them in proofs/.
-pub mod allowing;
 pub mod asking;
 pub mod compiled;
 pub mod facts;

@@ -1,17 +1,17 @@
 // Whether a formula is true at given values of its vertices: every place is tested, and so the formula is known.
-use formula::knowing::Truth;
-use formula::knowing::known;
+use knowing::knowing::Truth;
+use knowing::knowing::known;
 ghost use mathlib.Core.Path.{_≡_};
 ghost use Prim.Native.Nat.{ℕ, _+_, _*_, _≤_, _<_};
 ghost use lib.ListN.{length, getD};
 ghost use lib.IntN.{pos, _+ℤ_};
 ghost use lib.Signed.{leZ};
 ghost use Rattle.meaning.specs.Limits.{mostVertices};
-ghost use Rattle.grid.specs.Grid.{Bounded, least-weight};
-ghost use Rattle.formula.specs.Cells.{bit};
-ghost use Rattle.formula.specs.Program.{Values, truth};
-ghost use Rattle.formula.specs.Formulas.{Formula};
-ghost use Rattle.sheet.specs.Rows.{fieldAt};
+ghost use Rattle.walks.specs.Grid.{Bounded, least-weight};
+ghost use Rattle.knowing.specs.Cells.{bit};
+ghost use Rattle.formulae.specs.Program.{Values, truth};
+ghost use Rattle.formulae.specs.Formulas.{Formula};
+ghost use Rattle.sheets.specs.Rows.{fieldAt};
 ghost use Rattle.sheet.specs.Checking.{Lent, Places};
 ghost use Rattle.sheet.specs.NoSheet.{ValuesRead, Small, Tested};
 

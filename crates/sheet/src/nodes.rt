@@ -1,5 +1,5 @@
 // The nodes of a case tree, one at a time: what the checker says of each (specs/Tree).
-use formula::knowing::Truth;
+use knowing::knowing::Truth;
 ghost use mathlib.Core.Path.{_≡_};
 ghost use Prim.Native.Nat.{ℕ, _+_, _≤_, _<_};
 ghost use mathlib.Core.List.{map};
@@ -7,12 +7,12 @@ ghost use lib.ListN.{length, take, drop};
 ghost use lib.IntN.{pos};
 ghost use lib.Signed.{ltZ};
 ghost use Rattle.meaning.specs.Limits.{mostVertices};
-ghost use Rattle.grid.specs.Walk.{Below, closed};
-ghost use Rattle.grid.specs.Grid.{weight, farN, Sized, AllWithin};
-ghost use Rattle.formula.specs.Cells.{bit};
-ghost use Rattle.formula.specs.Known.{knownKinds};
-ghost use Rattle.formula.specs.Formulas.{Formula};
-ghost use Rattle.sheet.specs.Tree.{falseNode, cycleNode};
+ghost use Rattle.walks.specs.Walk.{Below, closed};
+ghost use Rattle.walks.specs.Grid.{weight, farN, Sized, AllWithin};
+ghost use Rattle.knowing.specs.Cells.{bit};
+ghost use Rattle.formulae.specs.Known.{knownKinds};
+ghost use Rattle.formulae.specs.Formulas.{Formula};
+ghost use Rattle.sheets.specs.Tree.{falseNode, cycleNode};
 ghost use Rattle.sheet.specs.Checking.{outcomeOf, Named, Shows};
 
 // Where a tree, or a part of it, ends in the bytes that were lent; or the number that says no, and where.
@@ -54,7 +54,7 @@ pub fn false_leaf(kinds: &[u8], truths: [u8; 120], decided: usize, part: &[u8], 
     requires { ⌜ (length (now kinds) ≤ 320) × (decided ≤ 120) × (at < length (now part)) ⌝ }
     ensures { λ r. ⌜ ((base : ℕ) → outcomeOf base (now (part .entry)) r ≡ falseNode (knownKinds (now (kinds .entry)) (map bit (take decided truths))) (base + at) (drop (at + 1) (now (part .entry)))) ⌝ }
 {
-    let t = formula::knowing::known(kinds, &truths[..decided]);
+    let t = knowing::knowing::known(kinds, &truths[..decided]);
     match t {
         Truth::Fails => Past::At(at + 1),
         Truth::Passes => Past::Refused(15, at),

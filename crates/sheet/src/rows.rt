@@ -1,11 +1,11 @@
 // The rows of a no sheet (specs/Rows, specs/Sheet): each field's value may stand there, and the formula is true at them.
-use question::types::Question;
+use asked::types::Question;
 ghost use mathlib.Core.Path.{_≡_};
 ghost use Prim.Native.Nat.{ℕ, _+_, _≤_, _<_};
 ghost use lib.ListN.{length, getD};
-ghost use Rattle.question.specs.Held.{questionOf};
-ghost use Rattle.formula.specs.Seen.{Whole};
-ghost use Rattle.sheet.specs.Rows.{fieldOk};
+ghost use Rattle.asked.specs.Held.{questionOf};
+ghost use Rattle.sights.specs.Seen.{Whole};
+ghost use Rattle.sheets.specs.Rows.{fieldOk};
 ghost use Rattle.sheet.specs.NoSheet.{FieldsRead};
 
 // Every field is there and its value may stand in it; or the first that is not so.
@@ -25,7 +25,7 @@ pub fn fields(q: Question, i: usize, sheet: &[u8], count: usize) -> Reading
         if sheet.len() < at + 4 {
             return Reading::Refused(11, at);
         }
-        if crate::allowing::field_allows(q, i, sheet, j) {
+        if allowances::allowing::field_allows(q, i, sheet, j) {
             j += 1;
             continue;
         }

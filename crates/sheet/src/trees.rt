@@ -7,8 +7,8 @@ ghost use mathlib.Core.Path.{_≡_};
 ghost use Prim.Native.Nat.{ℕ, _+_, _≤_};
 ghost use lib.ListN.{length, drop};
 ghost use Rattle.meaning.specs.Limits.{mostVertices};
-ghost use Rattle.grid.specs.Grid.{farN, Sized, AllWithin};
-ghost use Rattle.formula.specs.Formulas.{Formula};
+ghost use Rattle.walks.specs.Grid.{farN, Sized, AllWithin};
+ghost use Rattle.formulae.specs.Formulas.{Formula};
 ghost use Rattle.sheet.specs.Checking.{outcomeOf, Shows, Lent, Lendable, checkLeft};
 
 // The tree at a position of the part that is lent, with so many places left: `truths` are the decisions of those before them, and

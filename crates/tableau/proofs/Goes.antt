@@ -8,10 +8,10 @@ use native.Mathlib.Omega.{arith}
 use lib.Dec.{eqb}
 use lib.ListN.{length, getD, set, length-set}
 use lib.IntN.{ℤ}
-use Rattle.grid.specs.Grid.{Grid, weight, Sized}
-use Rattle.grid.specs.Walk.{Sat}
-use Rattle.formula.specs.Program.{Values, Place}
-use Rattle.sheet.specs.Facts.{taken}
+use Rattle.walks.specs.Grid.{Grid, weight, Sized}
+use Rattle.walks.specs.Walk.{Sat}
+use Rattle.formulae.specs.Program.{Values, Place}
+use Rattle.sheets.specs.Facts.{taken}
 use Rattle.sheet.specs.Checking.{placeAt}
 use Rattle.tableau.specs.Closed.{Tight, Enters}
 use Rattle.tableau.specs.Nodes.{Made, Describes}

@@ -6,16 +6,17 @@ use mathlib.Core.List.{List, [], _∷_}
 use native.Mathlib.Omega.{arith}
 use native.Mathlib.Decide.{ℕ-discrete}
 use lib.ListN.{length}
-use Rattle.question.specs.Accepted.{Every, Accepted}
+use Rattle.questions.specs.Accepted.{Every, Accepted}
 use Rattle.meaning.specs.Contents.{Question}
-use Rattle.formula.specs.Able.{noFormula, formulaAt}
-use Rattle.formula.specs.Formulas.{Formula, formulas}
-use Rattle.formula.specs.Program.{truth}
-use Rattle.formula.proofs.Proper.{formulas-proper}
-use Rattle.sheet.specs.Sheet.{lastVertex, sayYes, sayNo, verdictFor, findingOf}
-use Rattle.sheet.specs.Trees.{Finding, allShut, firstOpen, writeTrees}
-use Rattle.sheet.proofs.Findings.{Fails, yes-found, yes-sound, no-found, opens-at, not-all}
-use Rattle.sheet.proofs.Fit.{fit-all}
+use Rattle.formulae.specs.Formulas.{noFormula}
+use Rattle.formula.specs.Able.{formulaAt}
+use Rattle.formulae.specs.Formulas.{Formula, formulas}
+use Rattle.formulae.specs.Program.{truth}
+use Rattle.formulae.proofs.Proper.{formulas-proper}
+use Rattle.sheets.specs.Sheet.{lastVertex, sayYes, sayNo, verdictFor, findingOf}
+use Rattle.sheets.specs.Trees.{Finding, allShut, firstOpen, writeTrees}
+use Rattle.sheets.proofs.Findings.{Fails, yes-found, yes-sound, no-found, opens-at, not-all}
+use Rattle.sheets.proofs.Fit.{fit-all}
 use Rattle.tableau.specs.Goals.{Decides, TrueAt}
 
 -- no values: it fails on all of them

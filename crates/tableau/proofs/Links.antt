@@ -7,7 +7,7 @@ use native.Mathlib.Omega.{arith}
 use native.Mathlib.Decide.{ℕ-discrete}
 use lib.ListN.{length, getD, take, set, length-map, length-set}
 use lib.Seq.{getD-set-same, take-all}
-use Rattle.formula.specs.Program.{Values, Program, test, run, top, truth, step, kindOf, kindsOf, places}
+use Rattle.formulae.specs.Program.{Values, Program, test, run, top, truth, step, kindOf, kindsOf, places}
 use Rattle.tableau.specs.Nodes.{arity, counted, says, Made, Shaped, Describes, valueAt, placeOf, whole, Linked}
 use Rattle.sheet.proofs.Standing.{nowhere}
 use Rattle.tableau.specs.declared.types.Root.{Root}

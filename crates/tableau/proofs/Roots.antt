@@ -6,11 +6,11 @@ use mathlib.Core.List.{List}
 use native.Mathlib.Omega.{arith}
 use lib.ListN.{length, getD, take}
 use lib.IntN.{ℤ}
-use Rattle.grid.specs.Grid.{Grid, weight}
-use Rattle.grid.specs.Walk.{Sat}
-use Rattle.formula.specs.Formulas.{Formula}
-use Rattle.formula.specs.Program.{Values, Program, test, truth, places}
-use Rattle.formula.proofs.Proper.{Proper}
+use Rattle.walks.specs.Grid.{Grid, weight}
+use Rattle.walks.specs.Walk.{Sat}
+use Rattle.formulae.specs.Formulas.{Formula}
+use Rattle.formulae.specs.Program.{Values, Program, test, truth, places}
+use Rattle.formulae.proofs.Proper.{Proper}
 use Rattle.sheet.proofs.Standing.{lent-place}
 use Rattle.sheet.specs.Checking.{placeAt}
 use Rattle.writer.specs.Planting.{Coded, Ranging}

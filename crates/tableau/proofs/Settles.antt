@@ -6,11 +6,11 @@ use mathlib.Core.List.{List, [], _∷_}
 use lib.Dec.{T}
 use lib.IntN.{pos, _+ℤ_}
 use lib.Signed.{leZ}
-use Rattle.question.specs.Accepted.{Every}
-use Rattle.formula.specs.Program.{Values, Place, Program, place, andI, orI, notI, trueI, falseI, test, step, run, top, truth, places}
-use Rattle.formula.specs.Vertices.{Ranges, present}
-use Rattle.formula.proofs.Sizes.{SmallPlace}
-use Rattle.sheet.proofs.Fit.{to-true, to-false}
+use Rattle.questions.specs.Accepted.{Every}
+use Rattle.formulae.specs.Program.{Values, Place, Program, place, andI, orI, notI, trueI, falseI, test, step, run, top, truth, places}
+use Rattle.formulae.specs.Vertices.{Ranges, present}
+use Rattle.formulae.proofs.Sizes.{SmallPlace}
+use Rattle.sheets.proofs.Fit.{to-true, to-false}
 
 module _ (rs : Ranges) (x : Values) where
   -- 0 where there is no vertex

@@ -16,12 +16,12 @@ use mir.Val.{SFits}
 use Rattle.ints.proofs.Bridge.{up, dn, ints, +law}
 use Rattle.ints.proofs.Machine.{machine, diff}
 use Rattle.meaning.specs.Contents.{Range}
-use Rattle.grid.specs.Grid.{Grid, weight}
-use Rattle.grid.specs.Walk.{Sat}
-use Rattle.formula.specs.Program.{Values}
-use Rattle.formula.specs.Vertices.{Ranges, Within, InRange, isSome}
-use Rattle.formula.proofs.Sizes.{billion}
-use Rattle.sheet.proofs.Fit.{to-true, to-false}
+use Rattle.walks.specs.Grid.{Grid, weight}
+use Rattle.walks.specs.Walk.{Sat}
+use Rattle.formulae.specs.Program.{Values}
+use Rattle.formulae.specs.Vertices.{Ranges, Within, InRange, isSome}
+use Rattle.formulae.proofs.Sizes.{billion}
+use Rattle.sheets.proofs.Fit.{to-true, to-false}
 use Rattle.sheet.proofs.Lends.{flagged}
 use Rattle.writer.specs.Planting.{Ranging}
 use Rattle.writer.specs.Starting.{Ranged}

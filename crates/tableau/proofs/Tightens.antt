@@ -14,15 +14,15 @@ use mir.Syntax.{w64}
 use mir.Val.{SFits}
 use Rattle.ints.proofs.Bridge.{minZ, min-spec, ints, eq-out, +law, neg-up, neg-dn}
 use Rattle.ints.proofs.Machine.{machine, lt-true, lt-false, le-true, le-false, true-le, false-le}
-use Rattle.grid.specs.Grid.{Grid, Sized, row, filled, weight, tighten, far, farN, AllWithin}
-use Rattle.grid.specs.Near.{Weights, via, relax, Closure}
-use Rattle.grid.specs.Walk.{Sat}
-use Rattle.grid.proofs.Grids.{tighten-le}
-use Rattle.grid.proofs.Nears.{closure-same, relax-closure, tightened, sat-tighten, sat-reached, near-small}
-use Rattle.grid.proofs.Rows.{filled-at, filled-length}
-use Rattle.grid.proofs.Relaxed.{newRow}
-use Rattle.formula.specs.Program.{Values, Place, test}
-use Rattle.sheet.specs.Facts.{taken}
+use Rattle.walks.specs.Grid.{Grid, Sized, row, filled, weight, tighten, far, farN, AllWithin}
+use Rattle.walks.specs.Near.{Weights, via, relax, Closure}
+use Rattle.walks.specs.Walk.{Sat}
+use Rattle.walks.proofs.Grids.{tighten-le}
+use Rattle.walks.proofs.Nears.{closure-same, relax-closure, tightened, sat-tighten, sat-reached, near-small}
+use Rattle.walks.proofs.Rows.{filled-at, filled-length}
+use Rattle.walks.proofs.Relaxed.{newRow}
+use Rattle.formulae.specs.Program.{Values, Place, test}
+use Rattle.sheets.specs.Facts.{taken}
 use Rattle.writer.specs.Growing.{Fact}
 use Rattle.tableau.specs.Closed.{Tight, Closer, Enters}
 

@@ -10,10 +10,10 @@ use lib.Seq.{getD-set-same, getD-set-other}
 use lib.Signed.{_<ℤ_}
 use lib.IntN.{ℤ, pos, _+ℤ_}
 use Rattle.ints.proofs.Bridge.{ints, +law}
-use Rattle.grid.specs.Grid.{Grid, weight}
-use Rattle.grid.specs.Walk.{Sat}
-use Rattle.formula.specs.Program.{Values, Place, test}
-use Rattle.sheet.specs.Facts.{taken}
+use Rattle.walks.specs.Grid.{Grid, weight}
+use Rattle.walks.specs.Walk.{Sat}
+use Rattle.formulae.specs.Program.{Values, Place, test}
+use Rattle.sheets.specs.Facts.{taken}
 use Rattle.sheet.specs.Checking.{placeAt}
 use Rattle.tableau.specs.Closed.{Closer}
 use Rattle.tableau.specs.Nodes.{says, Made, Describes}

@@ -7,10 +7,10 @@ use lib.ListN.{length}
 use lib.IntN.{ℤ, pos, _+ℤ_}
 use lib.Signed.{_≤ℤ_, _<ℤ_}
 use Rattle.meaning.specs.Limits.{mostVertices}
-use Rattle.grid.specs.Grid.{Grid, weight, Sized, far}
-use Rattle.grid.specs.Walk.{Sat}
-use Rattle.formula.specs.Program.{Values}
-use Rattle.sheet.specs.Facts.{taken}
+use Rattle.walks.specs.Grid.{Grid, weight, Sized, far}
+use Rattle.walks.specs.Walk.{Sat}
+use Rattle.formulae.specs.Program.{Values}
+use Rattle.sheets.specs.Facts.{taken}
 use Rattle.sheet.specs.Checking.{placeAt}
 use Rattle.writer.specs.Growing.{Fact}
 

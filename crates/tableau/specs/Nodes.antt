@@ -4,7 +4,7 @@ use mathlib.Core.Path.{_≡_}
 use mathlib.Core.Bool.{Bool, true, false, not, _&&_, _||_}
 use mathlib.Core.List.{List, []}
 use lib.ListN.{length, getD, take}
-use Rattle.formula.specs.Program.{Values, Place, Program, kindsOf, places, test, run, top, truth}
+use Rattle.formulae.specs.Program.{Values, Place, Program, kindsOf, places, test, run, top, truth}
 use Rattle.sheet.proofs.Standing.{nowhere}
 use Rattle.tableau.specs.declared.types.Root.{Root}
 

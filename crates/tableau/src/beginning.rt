@@ -2,7 +2,7 @@
 use ints::weights::difference;
 ghost use Prim.Native.Nat.{ℕ, _<_};
 ghost use mathlib.Core.Path.{_≡_};
-ghost use Rattle.grid.specs.Grid.{weight, filled};
+ghost use Rattle.walks.specs.Grid.{weight, filled};
 ghost use Rattle.writer.specs.Starting.{Ranged};
 ghost use Rattle.tableau.specs.Begun.{endOf, spread};
 

@@ -1,14 +1,14 @@
 // The verdict for a question that was read: no where a formula is true at some values in range.
 use crate::deciding::formula_opens;
+use asked::types::Question;
 use formula::formulas::formula;
 use formula::formulas::formula_count;
-use question::types::Question;
 use sheet::types::Verdict;
 ghost use mathlib.Core.Path.{_≡_};
-ghost use Rattle.question.specs.Held.{Held, questionOf};
-ghost use Rattle.question.specs.Accepted.{Accepted};
+ghost use Rattle.asked.specs.Held.{Held, questionOf};
+ghost use Rattle.questions.specs.Accepted.{Accepted};
 ghost use Rattle.sheet.specs.Answered.{verdictOf};
-ghost use Rattle.sheet.specs.Sheet.{verdictFor, findingOf};
+ghost use Rattle.sheets.specs.Sheet.{verdictFor, findingOf};
 
 // It is that of the sheet, whose trees or values are not looked for.
 pub fn judge(q: Question, asked: u8) -> Verdict

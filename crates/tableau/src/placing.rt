@@ -1,12 +1,12 @@
 // A place that is wanted true, or false: one fact more, put into the closure of those before it.
-use grid::relax_row;
 use ints::weights::negation;
+use nearing::relax_row;
 ghost use Prim.Native.Nat.{suc, _<_};
 ghost use lib.ListN.{length};
 ghost use Rattle.meaning.specs.Limits.{mostVertices};
-ghost use Rattle.grid.specs.Grid.{Sized};
+ghost use Rattle.walks.specs.Grid.{Sized};
 ghost use Rattle.sheet.specs.Checking.{placeAt};
-ghost use Rattle.sheet.specs.Facts.{taken};
+ghost use Rattle.sheets.specs.Facts.{taken};
 ghost use Rattle.writer.specs.Growing.{Fact};
 ghost use Rattle.tableau.specs.Closed.{Tight, Enters, Placed};
 

@@ -6,13 +6,14 @@ use mathlib.Core.List.{List, [], _∷_, _++_}
 use native.Mathlib.Numerals.{add-one}
 use lib.ListN.{length, getD}
 use lib.IntN.{pos}
-use Rattle.formula.specs.Formulas.{Formula}
-use Rattle.formula.specs.Able.{noFormula, formulaAt}
-use Rattle.sheet.specs.Grow.{Growth, shut, openAt, growTree}
-use Rattle.sheet.specs.Sheet.{lastVertex}
-use Rattle.sheet.specs.Tree.{Tree, bytesOf}
-use Rattle.sheet.specs.Trees.{writeTrees, bytesAll}
-use Rattle.sheet.proofs.Positions.{ShutBefore, shut-more, found-open, found-shut, bytes-more}
+use Rattle.formulae.specs.Formulas.{Formula}
+use Rattle.formulae.specs.Formulas.{noFormula}
+use Rattle.formula.specs.Able.{formulaAt}
+use Rattle.sheets.specs.Grow.{Growth, shut, openAt, growTree}
+use Rattle.sheets.specs.Sheet.{lastVertex}
+use Rattle.sheets.specs.Tree.{Tree, bytesOf}
+use Rattle.sheets.specs.Trees.{writeTrees, bytesAll}
+use Rattle.sheets.proofs.Positions.{ShutBefore, shut-more, found-open, found-shut, bytes-more}
 use Rattle.writer.specs.Growing.{Grows}
 use Rattle.writer.specs.Finding.{Finds}
 use Rattle.writer.specs.Room.{filling, puts}

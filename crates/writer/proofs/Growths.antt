@@ -13,23 +13,23 @@ use Rattle.ints.proofs.Bridge.{up, dn, ints, eq-out}
 use Rattle.ints.proofs.Machine.{machine, lt-false}
 use mir.Syntax.{w64}
 use mir.Val.{SFits}
-use Rattle.grid.specs.Grid.{Grid, weight, tighten, tabled, far, farN, least-weight, Bounded, AllWithin}
-use Rattle.grid.specs.Near.{relax}
-use Rattle.grid.specs.Found as Found
-use Rattle.grid.specs.declared.Cycle.{Cycle}
-use Rattle.grid.proofs.Grids.{tighten-keeps, tighten-le, tighten-sized}
-use Rattle.grid.proofs.Rows.{tabled-sized}
-use Rattle.grid.proofs.Nears.{relax-closure, tightened, tabled-closure, near-small}
-use Rattle.formula.specs.Formulas.{Formula}
-use Rattle.formula.specs.Known.{Three, fails, passes, open?}
-use Rattle.sheet.specs.Fast.{strainedNode, cycleOf}
-use Rattle.sheet.specs.Tree.{bytesOf, cycle}
-use Rattle.sheet.specs.Grow.{Growth, shut, openAt, join}
+use Rattle.walks.specs.Grid.{Grid, weight, tighten, tabled, far, farN, least-weight, Bounded, AllWithin}
+use Rattle.walks.specs.Near.{relax}
+use Rattle.cycling.specs.Found as Found
+use Rattle.cycling.specs.declared.Cycle.{Cycle}
+use Rattle.walks.proofs.Grids.{tighten-keeps, tighten-le, tighten-sized}
+use Rattle.walks.proofs.Rows.{tabled-sized}
+use Rattle.walks.proofs.Nears.{relax-closure, tightened, tabled-closure, near-small}
+use Rattle.formulae.specs.Formulas.{Formula}
+use Rattle.formulae.specs.Known.{Three, fails, passes, open?}
+use Rattle.sheets.specs.Fast.{strainedNode, cycleOf}
+use Rattle.sheets.specs.Tree.{bytesOf, cycle}
+use Rattle.sheets.specs.Grow.{Growth, shut, openAt, join}
 use Rattle.writer.specs.Room.{Filling, filling, putOne, puts}
 use Rattle.writer.specs.Growing.{Grows, Fact, Kept, Ready, cutBytes}
 use Rattle.writer.specs.declared.room.Spot.{Spot}
 use Rattle.writer.specs.declared.growing.Grown.{Grown}
-use Rattle.sheet.proofs.Fasts.{Same}
+use Rattle.sheets.proofs.Fasts.{Same}
 use Rattle.writer.proofs.Puts.{puts-append, puts-length}
 
 -- ---- what is left by growths

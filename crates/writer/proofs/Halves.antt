@@ -9,28 +9,28 @@ use lib.ListN.{length, getD, take, drop, set}
 use lib.IntN.{ℤ, pos, _+ℤ_}
 use lib.Signed.{ltZ}
 use Rattle.meaning.specs.Limits.{mostVertices}
-use Rattle.grid.specs.Grid.{Grid, row, weight, tighten, tabled, Sized}
-use Rattle.grid.specs.Near.{relax}
-use Rattle.grid.specs.Search.{search}
-use Rattle.grid.proofs.Rows.{read, tabled-at}
-use Rattle.formula.specs.Formulas.{Formula}
-use Rattle.formula.specs.Known.{Three, fails, passes, open?, known, knownKinds}
-use Rattle.formula.specs.Program.{Place, places}
-use Rattle.formula.specs.Cells.{bit}
-use Rattle.formula.proofs.Knows.{known-kinds}
+use Rattle.walks.specs.Grid.{Grid, row, weight, tighten, tabled, Sized}
+use Rattle.walks.specs.Near.{relax}
+use Rattle.walks.specs.Search.{search}
+use Rattle.walks.proofs.Rows.{read, tabled-at}
+use Rattle.formulae.specs.Formulas.{Formula}
+use Rattle.formulae.specs.Known.{Three, fails, passes, open?, known, knownKinds}
+use Rattle.formulae.specs.Program.{Place, places}
+use Rattle.knowing.specs.Cells.{bit}
+use Rattle.formulae.proofs.Knows.{known-kinds}
 use Rattle.sheet.specs.Checking.{Lent, placeAt}
-use Rattle.sheet.specs.Facts.{negation, taken}
-use Rattle.sheet.specs.Fast.{calmNode, strainedNode, fast, sideOf, after}
-use Rattle.sheet.specs.Grow.{Growth, shut, openAt, join}
-use Rattle.sheet.specs.Tree.{bytesOf, falseLeaf}
+use Rattle.sheets.specs.Facts.{negation, taken}
+use Rattle.sheets.specs.Fast.{calmNode, strainedNode, fast, sideOf, after}
+use Rattle.sheets.specs.Grow.{Growth, shut, openAt, join}
+use Rattle.sheets.specs.Tree.{bytesOf, falseLeaf}
 use Rattle.writer.specs.Room.{filling, putOne, puts}
 use Rattle.writer.specs.Growing.{decisions, Grows, Ready, cutBytes, fastAt, sideBy}
 use Rattle.writer.specs.declared.room.Spot.{Spot}
 use Rattle.writer.specs.declared.growing.Grown.{Grown}
-use Rattle.question.specs.Accepted.{Every}
-use Rattle.sheet.proofs.FastAmong.{SameBelow, Ends, fast-table}
+use Rattle.questions.specs.Accepted.{Every}
+use Rattle.sheets.proofs.FastAmong.{SameBelow, Ends, fast-table}
 use Rattle.sheet.proofs.Standing.{nowhere, lent-most, lent-place, decided-more}
-use Rattle.sheet.proofs.Steps.{fast-split, fast-end}
+use Rattle.sheets.proofs.Steps.{fast-split, fast-end}
 use Rattle.writer.proofs.Growths.{grows-same, grows-first, grows-second}
 
 all-of : (P : Place → Type 0) (ps : List Place) (d : Place) → ((i : ℕ) → i < length ps → P (getD ps i d)) → Every P ps

@@ -11,27 +11,27 @@ use lib.Signed.{_≤ℤ_}
 use Rattle.ints.proofs.Bridge.{up, dn, +up, +dn, neg-up, neg-dn}
 use Rattle.meaning.specs.Contents.{Range}
 use Rattle.meaning.specs.Limits.{mostVertices}
-use Rattle.question.specs.Accepted.{Every}
-use Rattle.grid.specs.Grid.{Grid, weight}
-use Rattle.formula.specs.Formulas.{Formula}
-use Rattle.formula.specs.Program.{Place, places}
-use Rattle.formula.specs.Vertices.{Ranges, isSome}
-use Rattle.formula.specs.Spans.{Compiled}
-use Rattle.formula.specs.declared.types.Formula as types
-use Rattle.formula.proofs.Proper.{Proper, SmallRange, Nonempty}
-use Rattle.formula.proofs.Sizes.{billion, SmallPlace}
-use Rattle.sheet.specs.Facts.{start, taken}
-use Rattle.sheet.specs.Fast.{fast, nearStart}
-use Rattle.sheet.specs.Grow.{Growth, shut, openAt, growTree}
-use Rattle.sheet.specs.Sheet.{lastVertex}
-use Rattle.sheet.proofs.Fasts.{Same}
-use Rattle.sheet.proofs.FastAmong.{Ends, fast-table, fast-formula}
-use Rattle.sheet.proofs.Fit.{fit, present-below}
+use Rattle.questions.specs.Accepted.{Every}
+use Rattle.walks.specs.Grid.{Grid, weight}
+use Rattle.formulae.specs.Formulas.{Formula}
+use Rattle.formulae.specs.Program.{Place, places}
+use Rattle.formulae.specs.Vertices.{Ranges, isSome}
+use Rattle.sights.specs.Spans.{Compiled}
+use Rattle.programs.specs.declared.types.Formula as types
+use Rattle.formulae.proofs.Proper.{Proper, SmallRange, Nonempty}
+use Rattle.formulae.proofs.Sizes.{billion, SmallPlace}
+use Rattle.sheets.specs.Facts.{start, taken}
+use Rattle.sheets.specs.Fast.{fast, nearStart}
+use Rattle.sheets.specs.Grow.{Growth, shut, openAt, growTree}
+use Rattle.sheets.specs.Sheet.{lastVertex}
+use Rattle.sheets.proofs.Fasts.{Same}
+use Rattle.sheets.proofs.FastAmong.{Ends, fast-table, fast-formula}
+use Rattle.sheets.proofs.Fit.{fit, present-below}
 use Rattle.sheet.specs.Checking.{placeAt}
-use Rattle.sheet.proofs.Holds.{bounds-start}
+use Rattle.sheets.proofs.Holds.{bounds-start}
 use Rattle.sheet.proofs.Lends.{flagged, lent-of, spanned-of}
 use Rattle.sheet.proofs.Standing.{nowhere, lent-place}
-use Rattle.sheet.proofs.NearStart.{start-far}
+use Rattle.sheets.proofs.NearStart.{start-far}
 use Rattle.writer.specs.Growing.{Grows, Fact, Ready, fastAt}
 use Rattle.writer.specs.Planting.{Coded, Ranging}
 use Rattle.writer.specs.Starting.{rangeAt, rangesFrom, Ranged, NearStarts}

@@ -10,14 +10,14 @@ use lib.ListN.{length, getD, length-map, length-append}
 use Rattle.meaning.specs.Contents.{Values, _∈_, Table, Change, insert, delete, modify, Question, columns}
 use Rattle.meaning.specs.WellFormed.{WellFormed, ChangeOk}
 use Rattle.meaning.proofs.Moving.{fits-length}
-use Rattle.question.specs.Accepted.{Every}
-use Rattle.question.specs.Held.{questionOf}
-use Rattle.question.specs.declared.types.Question as D
-use Rattle.formula.specs.Formulas.{Formula, firstRanges, bothRanges, hiddenRanges, inserted, unlessAlone, irrelevance, computability, formulas}
-use Rattle.formula.specs.Seen.{Whole}
-use Rattle.formula.proofs.Present.{hidden-length}
-use Rattle.sheet.specs.Rows.{fields}
-use Rattle.sheet.proofs.Columns.{Wide}
+use Rattle.questions.specs.Accepted.{Every}
+use Rattle.asked.specs.Held.{questionOf}
+use Rattle.asked.specs.declared.types.Question as D
+use Rattle.formulae.specs.Formulas.{Formula, firstRanges, bothRanges, hiddenRanges, inserted, unlessAlone, irrelevance, computability, formulas}
+use Rattle.sights.specs.Seen.{Whole}
+use Rattle.formulae.proofs.Present.{hidden-length}
+use Rattle.sheets.specs.Rows.{fields}
+use Rattle.sheets.proofs.Columns.{Wide}
 use Rattle.writer.specs.Showing.{Showable}
 
 -- ---- a vertex a field

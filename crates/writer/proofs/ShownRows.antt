@@ -14,17 +14,17 @@ use mir.Syntax.{w32}
 use mir.Val.{ofZ}
 use Rattle.ints.specs.Bytes.{bytes4}
 use Rattle.meaning.specs.Contents.{Values, look, columnsOf, Change, insert, delete, modify, Question, first}
-use Rattle.question.specs.Held.{questionOf}
-use Rattle.question.specs.declared.types.Question as D
-use Rattle.formula.specs.Formulas.{Formula, among, secondSight, tabulate, rowOf1, rowOf2}
-use Rattle.formula.specs.Program as P
-use Rattle.formula.specs.Seen.{rowSight}
-use Rattle.formula.proofs.Shapes.{columns-length}
-use Rattle.sheet.specs.Rows.{width, fields, putRow, firstRow, secondRow, bytesOfRow, fixed, matches}
-use Rattle.sheet.proofs.Allowed.{getD-some, row-before, row-past}
-use Rattle.sheet.proofs.Columns.{Wide, first-value, second-value}
-use Rattle.sheet.proofs.Inserted.{orElse}
-use Rattle.sheet.proofs.Values.{equal-is, tabulate-length, tabulate-same}
+use Rattle.asked.specs.Held.{questionOf}
+use Rattle.asked.specs.declared.types.Question as D
+use Rattle.formulae.specs.Formulas.{Formula, among, secondSight, tabulate, rowOf1, rowOf2}
+use Rattle.formulae.specs.Program as P
+use Rattle.sights.specs.Seen.{rowSight}
+use Rattle.sights.proofs.Shapes.{columns-length}
+use Rattle.sheets.specs.Rows.{width, fields, putRow, firstRow, secondRow, bytesOfRow, fixed, matches}
+use Rattle.allowances.proofs.Allowed.{getD-some, row-before, row-past}
+use Rattle.sheets.proofs.Columns.{Wide, first-value, second-value}
+use Rattle.sheets.proofs.Inserted.{orElse}
+use Rattle.sheets.proofs.Values.{equal-is, tabulate-length, tabulate-same}
 use Rattle.writer.specs.Room.{Filling, puts}
 use Rattle.writer.specs.Showing.{rowFor, rowsFor, Showable, Alike}
 use Rattle.writer.proofs.Puts.{puts-append}

@@ -13,16 +13,16 @@ use mir.Val.{SFits}
 use Rattle.ints.proofs.Machine.{machine}
 use lib.Signed.{_≤ℤ_}
 use Rattle.ints.proofs.Bridge.{up, dn, ints, minZ, +law, neg-up, neg-dn}
-use Rattle.grid.specs.Grid.{Grid, weight, tighten, tabled, blank, Sized, far, farN, Bounded, AllWithin}
-use Rattle.grid.specs.Near.{Weights, relax, nearBlank, Closure}
-use Rattle.grid.specs.Walk.{Sat}
-use Rattle.grid.proofs.Grids.{tighten-le, tighten-sized, blank-sized, blank-far}
-use Rattle.grid.proofs.Rows.{tabled-sized, tabled-at}
-use Rattle.grid.proofs.Nears.{closure-same, relax-closure, sat-round, tightened, blank-closure-of, tabled-closure, sat-tighten, near-small}
-use Rattle.formula.specs.Vertices.{Ranges}
-use Rattle.formula.proofs.Sizes.{billion}
-use Rattle.sheet.specs.Facts.{confineAll, start}
-use Rattle.sheet.specs.Fast.{nearConfineAll, nearStart}
+use Rattle.walks.specs.Grid.{Grid, weight, tighten, tabled, blank, Sized, far, farN, Bounded, AllWithin}
+use Rattle.walks.specs.Near.{Weights, relax, nearBlank, Closure}
+use Rattle.walks.specs.Walk.{Sat}
+use Rattle.walks.proofs.Grids.{tighten-le, tighten-sized, blank-sized, blank-far}
+use Rattle.walks.proofs.Rows.{tabled-sized, tabled-at}
+use Rattle.walks.proofs.Nears.{closure-same, relax-closure, sat-round, tightened, blank-closure-of, tabled-closure, sat-tighten, near-small}
+use Rattle.formulae.specs.Vertices.{Ranges}
+use Rattle.formulae.proofs.Sizes.{billion}
+use Rattle.sheets.specs.Facts.{confineAll, start}
+use Rattle.sheets.specs.Fast.{nearConfineAll, nearStart}
 use Rattle.writer.specs.Starting.{rangesFrom, Ranged, NearStarts}
 
 -- ---- one fact more that some values meet

@@ -5,7 +5,7 @@ use mathlib.Core.Bool.{true, false}
 use mathlib.Core.List.{List}
 use lib.ListN.{length, getD}
 use lib.IntN.{pos}
-use Rattle.sheet.specs.Trees.{Finding, allShut, firstOpen, bytesAll}
+use Rattle.sheets.specs.Trees.{Finding, allShut, firstOpen, bytesAll}
 use Rattle.writer.specs.Room.{filling, puts}
 use Rattle.writer.specs.declared.room.Spot.{Spot}
 use Rattle.writer.specs.declared.finding.Found.{Found}

@@ -7,16 +7,16 @@ use lib.ListN.{length, getD, take, drop}
 use lib.IntN.{ℤ, pos}
 use lib.Signed.{_≤ℤ_}
 use Rattle.ints.proofs.Bridge.{up, dn}
-use Rattle.grid.specs.Grid.{Grid, weight, tighten, far, least-weight, Sized}
-use Rattle.grid.specs.Near.{Closure}
-use Rattle.formula.specs.Program.{Place, places}
-use Rattle.formula.specs.Cells.{bit}
-use Rattle.formula.specs.Formulas.{Formula}
+use Rattle.walks.specs.Grid.{Grid, weight, tighten, far, least-weight, Sized}
+use Rattle.walks.specs.Near.{Closure}
+use Rattle.formulae.specs.Program.{Place, places}
+use Rattle.knowing.specs.Cells.{bit}
+use Rattle.formulae.specs.Formulas.{Formula}
 use Rattle.sheet.specs.Checking.{placeAt}
-use Rattle.sheet.specs.Facts.{taken}
-use Rattle.sheet.specs.Fast.{after, half, fast}
-use Rattle.sheet.specs.Tree.{bytesOf}
-use Rattle.sheet.specs.Grow.{Growth, shut, openAt}
+use Rattle.sheets.specs.Facts.{taken}
+use Rattle.sheets.specs.Fast.{after, half, fast}
+use Rattle.sheets.specs.Tree.{bytesOf}
+use Rattle.sheets.specs.Grow.{Growth, shut, openAt}
 use Rattle.writer.specs.Room.{filling, puts}
 use Rattle.writer.specs.declared.room.Spot.{Spot}
 use Rattle.writer.specs.declared.growing.Grown.{Grown}

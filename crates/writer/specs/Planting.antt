@@ -7,11 +7,11 @@ use mathlib.Core.List.{List}
 use lib.ListN.{length, take}
 use lib.IntN.{ℤ}
 use Rattle.meaning.specs.Contents.{Range}
-use Rattle.formula.specs.Formulas.{Formula}
-use Rattle.formula.specs.Program.{places}
-use Rattle.formula.specs.Vertices.{Ranges}
+use Rattle.formulae.specs.Formulas.{Formula}
+use Rattle.formulae.specs.Program.{places}
+use Rattle.formulae.specs.Vertices.{Ranges}
 use Rattle.sheet.specs.Checking.{Lent, Spanned}
-use Rattle.formula.proofs.Proper.{Proper}
+use Rattle.formulae.proofs.Proper.{Proper}
 
 -- the first n kinds and the first so many places are the program's, and that is all of it
 pub record Coded (F : Formula) (kinds : List ℕ) (n : ℕ) (left right : List ℕ) (most : List ℤ) (few : ℕ) : Type 0 where

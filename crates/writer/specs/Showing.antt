@@ -5,13 +5,13 @@ use mathlib.Core.Bool.{Bool, cond}
 use mathlib.Core.List.{[], _++_}
 use Rattle.meaning.specs.Contents.{Values, look}
 use Rattle.meaning.specs.Contents as M
-use Rattle.question.specs.Held.{questionOf}
-use Rattle.question.specs.declared.types.Question.{Question}
-use Rattle.formula.specs.Program as P
-use Rattle.formula.specs.Formulas.{rowOf2}
-use Rattle.formula.specs.Seen.{Whole}
-use Rattle.sheet.specs.Rows.{firstRow}
-use Rattle.sheet.proofs.Columns.{Wide}
+use Rattle.asked.specs.Held.{questionOf}
+use Rattle.asked.specs.declared.types.Question.{Question}
+use Rattle.formulae.specs.Program as P
+use Rattle.formulae.specs.Formulas.{rowOf2}
+use Rattle.sights.specs.Seen.{Whole}
+use Rattle.sheets.specs.Rows.{firstRow}
+use Rattle.sheets.proofs.Columns.{Wide}
 
 -- the first or the second row
 abbrev pub rowFor : M.Question → ℕ → Bool → P.Values → Values

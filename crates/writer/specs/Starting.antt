@@ -9,12 +9,12 @@ use lib.IntN.{ℤ, pos}
 use lib.Signed.{_≤ℤ_}
 use Rattle.ints.proofs.Bridge.{up, dn}
 use Rattle.meaning.specs.Contents.{Range}
-use Rattle.formula.specs.Vertices.{Ranges}
-use Rattle.formula.proofs.Sizes.{billion}
-use Rattle.grid.specs.Grid.{Grid, weight, Sized}
-use Rattle.grid.specs.Near.{Closure}
-use Rattle.sheet.specs.Facts.{start}
-use Rattle.sheet.specs.Fast.{nearStart}
+use Rattle.formulae.specs.Vertices.{Ranges}
+use Rattle.formulae.proofs.Sizes.{billion}
+use Rattle.walks.specs.Grid.{Grid, weight, Sized}
+use Rattle.walks.specs.Near.{Closure}
+use Rattle.sheets.specs.Facts.{start}
+use Rattle.sheets.specs.Fast.{nearStart}
 
 -- the range of vertex v, if it is there
 abbrev pub rangeAt : List Bool → List ℤ → List ℤ → ℕ → Option Range

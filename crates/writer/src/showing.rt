@@ -1,11 +1,11 @@
 // A no sheet's bytes after its header: the open formula's number, then its rows' values.
 use crate::room::Spot;
 use crate::room::put;
-use formula::seeing::vertex_at;
+use allowances::allowing::row_at;
+use asked::types::Question;
+use asked::types::Verb;
 use ints::weights::wide;
-use question::types::Question;
-use question::types::Verb;
-use sheet::allowing::row_at;
+use sights::seeing::vertex_at;
 ghost use Prim.Native.Nat.{_≤_, _<_};
 ghost use mathlib.Core.Path.{_≡_};
 ghost use mathlib.Core.Option.{none, some};
@@ -15,12 +15,12 @@ ghost use mir.Syntax.{w32};
 ghost use mir.Val.{ofZ};
 ghost use Rattle.ints.specs.Bytes.{bytes4};
 ghost use Rattle.meaning.specs.Contents.{look};
-ghost use Rattle.question.specs.Held.{questionOf};
-ghost use Rattle.formula.specs.Formulas.{Formula};
-ghost use Rattle.formula.specs.Program.{Values};
-ghost use Rattle.formula.specs.Seen.{Whole};
-ghost use Rattle.sheet.specs.Rows.{fixed, fields, bytesOfRow, noBytes};
-ghost use Rattle.sheet.proofs.Inserted.{orElse};
+ghost use Rattle.asked.specs.Held.{questionOf};
+ghost use Rattle.formulae.specs.Formulas.{Formula};
+ghost use Rattle.formulae.specs.Program.{Values};
+ghost use Rattle.sights.specs.Seen.{Whole};
+ghost use Rattle.sheets.specs.Rows.{fixed, fields, bytesOfRow, noBytes};
+ghost use Rattle.sheets.proofs.Inserted.{orElse};
 ghost use Rattle.writer.specs.Room.{filling, puts};
 ghost use Rattle.writer.specs.Showing.{rowFor, rowsFor, Showable, Alike};
 

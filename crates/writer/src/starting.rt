@@ -1,7 +1,7 @@
 // Before any decision: the closure of the ranges' facts.
-use grid::near_blank;
-use grid::relax;
 use ints::weights::difference;
+use nearing::near_blank;
+use nearing::relax;
 ghost use Prim.Native.Nat.{_-_};
 ghost use Rattle.writer.specs.Starting.{rangesFrom, Ranged, NearStarts};
 

@@ -1,8 +1,8 @@
 use borrow.Author.Needs.{needs}
 use denote.Ref.{now}
 use mathlib.Core.Path.{sym, ap, _∙_}
-use Rattle.question.specs.declared.types.Answer.the-variants.{Good, Refused}
-use Rattle.sheet.specs.Answers.{checkFor, checkOf}
+use Rattle.asked.specs.declared.types.Answer.the-variants.{Good, Refused}
+use Rattle.sheets.specs.Answers.{checkFor, checkOf}
 use Rattle.sheet.proofs.Asks.{asked-means, asked-holds}
 use Rattle.checker.proofs.check.Statement.{statement}
 use Rattle.checker.proofs.check.Tie as tie

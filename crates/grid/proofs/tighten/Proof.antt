@@ -6,8 +6,8 @@ use mir.Val.{SFits}
 use mir.Facts.{toZ-ofZ}
 use Rattle.ints.proofs.Bridge.{minZ}
 use Rattle.meaning.specs.Limits.{mostVertices}
-use Rattle.grid.specs.Grid.{row, tighten}
-use Rattle.grid.proofs.Rows.{read, sized}
+use Rattle.walks.specs.Grid.{row, tighten}
+use Rattle.walks.proofs.Rows.{read, sized}
 use borrow.Author.Needs.{needs}
 use Rattle.grid.proofs.tighten.Statement.{statement}
 use Rattle.grid.proofs.tighten.Tie as tie

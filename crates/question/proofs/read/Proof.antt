@@ -1,5 +1,5 @@
 use borrow.Author.Tests.{le-leb, lt-leb, ne-eqb}
-use Rattle.question.specs.Reader.{readOf}
+use Rattle.questions.specs.Reader.{readOf}
 use borrow.Author.Needs.{needs}
 use Rattle.question.proofs.read.Statement.{statement}
 use Rattle.question.proofs.read.Tie as tie

@@ -1,7 +1,7 @@
 use borrow.Author.Needs.{needs}
 use native.Mathlib.Omega.{arith}
 use denote.Ref.{now}
-use Rattle.question.specs.Held.{questionOf}
+use Rattle.asked.specs.Held.{questionOf}
 use Rattle.answers.proofs.Places.{fits-in, placed-whole, placed-none}
 use Rattle.answers.proofs.finishing.finish.Statement.{statement}
 use Rattle.answers.proofs.finishing.finish.Tie as tie

@@ -2,7 +2,7 @@ use borrow.Author.Needs.{needs}
 use mathlib.Core.Path.{sym, _∙_}
 use denote.Ref.{now}
 use lib.ListN.{length-map}
-use Rattle.question.specs.Held.{questionOf}
+use Rattle.asked.specs.Held.{questionOf}
 use Rattle.writer.proofs.ShownFormulas.{showable}
 use Rattle.answers.proofs.Lays.{number-there, number-byte, lays-yes, lays-no}
 use Rattle.answers.proofs.laying.lay.Statement.{statement}

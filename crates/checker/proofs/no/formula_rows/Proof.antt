@@ -3,13 +3,13 @@ use mathlib.Core.Bool.{cond}
 use Prim.Native.Nat.{_+_}
 use native.Mathlib.Omega.{arith}
 use lib.ListN.{length-map}
-use Rattle.question.specs.Held.{questionOf}
-use Rattle.formula.specs.Formulas.{Formula}
-use Rattle.formula.specs.Seen.{Whole}
-use Rattle.formula.specs.Spans.{Compiled}
-use Rattle.formula.proofs.Shapes.{columns-length}
-use Rattle.sheet.specs.Rows.{fields}
-use Rattle.sheet.specs.Sheet.{noEnd}
+use Rattle.asked.specs.Held.{questionOf}
+use Rattle.formulae.specs.Formulas.{Formula}
+use Rattle.sights.specs.Seen.{Whole}
+use Rattle.sights.specs.Spans.{Compiled}
+use Rattle.sights.proofs.Shapes.{columns-length}
+use Rattle.sheets.specs.Rows.{fields}
+use Rattle.sheets.specs.Sheet.{noEnd}
 use Rattle.sheet.specs.NoSheet.{afterFields, FieldsInside}
 use Rattle.checker.proofs.RowRun.{two-most, rows-after}
 use borrow.Author.Needs.{needs}

@@ -2,10 +2,10 @@ use Prim.Native.Nat.{_<_}
 use native.Mathlib.Omega.{arith}
 use lib.ListN.{length, getD}
 use borrow.Author.Tests.{le-leb, lt-leb, lt-ltb, le-ltb}
-use Rattle.question.specs.Held.{questionOf}
-use Rattle.formula.specs.Formulas.{formulas}
+use Rattle.asked.specs.Held.{questionOf}
+use Rattle.formulae.specs.Formulas.{formulas}
 use Rattle.formula.specs.Able.{formulaAt}
-use Rattle.sheet.specs.Sheet.{checkNo}
+use Rattle.sheets.specs.Sheet.{checkNo}
 use Rattle.checker.proofs.Numbered.{fine-at}
 use borrow.Author.Needs.{needs}
 use Rattle.checker.proofs.no.no_sheet.Statement.{statement}

@@ -4,14 +4,14 @@ use mathlib.Core.Path.{_≡_, refl, sym, ap, subst, _∙_}
 use native.Mathlib.Omega.{arith}
 use lib.ListN.{length, drop, length-drop}
 use Rattle.meaning.specs.Limits.{mostVertices}
-use Rattle.question.specs.Held.{questionOf}
-use Rattle.formula.specs.Formulas.{formulas}
+use Rattle.asked.specs.Held.{questionOf}
+use Rattle.formulae.specs.Formulas.{formulas}
 use Rattle.formula.specs.Able.{formulaAt}
 use Rattle.sheet.specs.declared.nodes.Past.{Past}
 use Rattle.sheet.specs.Checking.{outcomeOf}
-use Rattle.sheet.specs.Tree.{checkTree}
-use Rattle.sheet.specs.Sheet.{checkYes}
-use Rattle.sheet.proofs.Cycles.{to-the-end}
+use Rattle.sheets.specs.Tree.{checkTree}
+use Rattle.sheets.specs.Sheet.{checkYes}
+use Rattle.sheets.proofs.Cycles.{to-the-end}
 use Rattle.checker.proofs.Numbered.{fine-at}
 use Rattle.checker.proofs.TreeRun.{left, Inside, past-inside, tree-good, tree-bad, trees-left, trees-done}
 use borrow.Author.Needs.{needs}

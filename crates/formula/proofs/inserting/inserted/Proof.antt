@@ -1,7 +1,7 @@
 use mathlib.Core.Path.{ap₂}
-use Rattle.question.specs.Held.{questionOf}
-use Rattle.formula.specs.Formulas.{C, after}
-use Rattle.formula.specs.Seen.{rowSight}
+use Rattle.asked.specs.Held.{questionOf}
+use Rattle.formulae.specs.Formulas.{C, after}
+use Rattle.sights.specs.Seen.{rowSight}
 use Rattle.formula.proofs.PutIns.{row-formula}
 use Rattle.formula.proofs.Troubled.{all, one}
 use borrow.Author.Needs.{needs}

@@ -1,4 +1,4 @@
-use Rattle.formula.proofs.Weights.{more}
+use Rattle.programs.proofs.Weights.{more}
 use borrow.Author.Needs.{needs}
 use Rattle.formula.proofs.listing.and_listed.Statement.{statement}
 use Rattle.formula.proofs.listing.and_listed.Tie as tie

@@ -1,9 +1,9 @@
 use mathlib.Core.Path.{ap, sym}
-use Rattle.question.specs.Held.{questionOf}
-use Rattle.formula.specs.Parts.{conditionProgram}
-use Rattle.formula.specs.Seen.{rowSight}
-use Rattle.formula.proofs.Shapes.{condition-is}
-use Rattle.formula.proofs.Weights.{said}
+use Rattle.asked.specs.Held.{questionOf}
+use Rattle.formulae.specs.Parts.{conditionProgram}
+use Rattle.sights.specs.Seen.{rowSight}
+use Rattle.sights.proofs.Shapes.{condition-is}
+use Rattle.programs.proofs.Weights.{said}
 use borrow.Author.Needs.{needs}
 use Rattle.formula.proofs.listing.listed.Statement.{statement}
 use Rattle.formula.proofs.listing.listed.Tie as tie

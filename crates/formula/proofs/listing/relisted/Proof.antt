@@ -1,8 +1,8 @@
 use mathlib.Core.Path.{ap₂, sym}
-use Rattle.formula.specs.Parts.{conditionProgram}
-use Rattle.formula.proofs.Shapes.{condition-is}
-use Rattle.formula.proofs.Sightings.{sight-moved}
-use Rattle.formula.proofs.Weights.{said}
+use Rattle.formulae.specs.Parts.{conditionProgram}
+use Rattle.sights.proofs.Shapes.{condition-is}
+use Rattle.sights.proofs.Sightings.{sight-moved}
+use Rattle.programs.proofs.Weights.{said}
 use borrow.Author.Needs.{needs}
 use Rattle.formula.proofs.listing.relisted.Statement.{statement}
 use Rattle.formula.proofs.listing.relisted.Tie as tie

@@ -2,12 +2,12 @@ use mathlib.Core.Path.{sym, ap, ap₂, _∙_}
 use mathlib.Core.List.{[], _∷_, _++_}
 use Rattle.meaning.specs.Condition.{unequal}
 use Rattle.meaning.specs.Trouble.{kept}
-use Rattle.formula.specs.Program.{orI}
-use Rattle.formula.specs.Compile.{comparison}
-use Rattle.formula.proofs.Ranging.{builds-none}
+use Rattle.formulae.specs.Program.{orI}
+use Rattle.formulae.specs.Compile.{comparison}
+use Rattle.sights.proofs.Ranging.{builds-none}
 use Rattle.formula.proofs.Shown.{at-hidden, at-kept, at-shown}
-use Rattle.formula.proofs.Sightings.{stands-near}
-use Rattle.formula.proofs.Weights.{said, more}
+use Rattle.sights.proofs.Sightings.{stands-near}
+use Rattle.programs.proofs.Weights.{said, more}
 use borrow.Author.Needs.{needs}
 use Rattle.formula.proofs.telling.differs_at.Statement.{statement}
 use Rattle.formula.proofs.telling.differs_at.Tie as tie

@@ -1,10 +1,10 @@
 use mathlib.Core.Path.{ap}
 use borrow.Author.Needs.{needs}
-use Rattle.formula.specs.Parts.{_and_, denied}
-use Rattle.formula.specs.Formulas as F
-use Rattle.formula.specs.Built.{Room}
+use Rattle.formulae.specs.Parts.{_and_, denied}
+use Rattle.formulae.specs.Formulas as F
+use Rattle.programs.specs.Built.{Room}
 use Rattle.formula.proofs.Troubled.{all, rest, enough, one, before, after, moves}
-use Rattle.formula.proofs.Weights.{more}
+use Rattle.programs.proofs.Weights.{more}
 use Rattle.formula.proofs.troubles.enters.Statement.{statement}
 use Rattle.formula.proofs.troubles.enters.Tie as tie
 

@@ -1,12 +1,12 @@
 use mathlib.Core.Path.{ap, _∙_}
 use mathlib.Core.Bool.{true, false}
 use borrow.Author.Needs.{needs}
-use Rattle.formula.specs.Parts.{_and_, denied}
-use Rattle.formula.specs.Formulas as F
-use Rattle.formula.specs.Built.{Room}
+use Rattle.formulae.specs.Parts.{_and_, denied}
+use Rattle.formulae.specs.Formulas as F
+use Rattle.programs.specs.Built.{Room}
 use Rattle.formula.specs.Able.{rowOf}
 use Rattle.formula.proofs.Troubled.{all, rest, enough, two, before, after, moves, differs}
-use Rattle.formula.proofs.Weights.{more}
+use Rattle.programs.proofs.Weights.{more}
 use Rattle.formula.proofs.troubles.one_moves.Statement.{statement}
 use Rattle.formula.proofs.troubles.one_moves.Tie as tie
 

@@ -1,6 +1,6 @@
 use mathlib.Core.Path.{refl}
 use borrow.Author.Tests.{lt-ltb, le-ltb}
-use Rattle.question.specs.Reader.{ending}
+use Rattle.questions.specs.Reader.{ending}
 use borrow.Author.Needs.{needs}
 use Rattle.question.proofs.reader.ended.Statement.{statement}
 use Rattle.question.proofs.reader.ended.Tie as tie

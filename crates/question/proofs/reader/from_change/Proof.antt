@@ -1,10 +1,10 @@
 use denote.Ref.{now}
 use mathlib.Core.Path.{sym, ap, _∙_}
-use Rattle.question.specs.Reader.{fromChange}
-use Rattle.question.specs.Held.{questionOf}
-use Rattle.question.specs.Pieces.{deedBy}
-use Rattle.question.specs.declared.types.Answer.{Answer}
-use Rattle.question.proofs.Steps.{then-good, on-bad}
+use Rattle.questions.specs.Reader.{fromChange}
+use Rattle.asked.specs.Held.{questionOf}
+use Rattle.changes.specs.Deeds.{deedBy}
+use Rattle.asked.specs.declared.types.Answer.{Answer}
+use Rattle.questions.proofs.Steps.{then-good, on-bad}
 use Rattle.question.proofs.Chain.{reads-as, change-field}
 use borrow.Author.Needs.{needs}
 use Rattle.question.proofs.reader.from_change.Statement.{statement}

@@ -1,11 +1,11 @@
 use mathlib.Core.Path.{sym, ap, _∙_}
 use mathlib.Core.List.{[]}
 use denote.Ref.{now}
-use Rattle.question.specs.Reader.{fromColumns, many, columnAt}
-use Rattle.question.specs.Held.{columnOf}
-use Rattle.question.specs.Pieces.{listOf}
-use Rattle.question.specs.declared.types.Answer.{Answer}
-use Rattle.question.proofs.Steps.{then-good, on-bad}
+use Rattle.questions.specs.Reader.{fromColumns, many, columnAt}
+use Rattle.asked.specs.Held.{columnOf}
+use Rattle.asked.specs.Parts.{listOf}
+use Rattle.asked.specs.declared.types.Answer.{Answer}
+use Rattle.questions.proofs.Steps.{then-good, on-bad}
 use Rattle.question.proofs.Chain.{reads-as}
 use borrow.Author.Needs.{needs}
 use Rattle.question.proofs.reader.from_columns.Statement.{statement}

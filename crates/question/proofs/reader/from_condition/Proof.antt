@@ -1,9 +1,9 @@
 use mathlib.Core.Path.{sym, ap, _∙_}
 use denote.Ref.{now}
-use Rattle.question.specs.Reader.{fromCondition, conditionAt}
-use Rattle.question.specs.Pieces.{clauseBy}
-use Rattle.question.specs.declared.types.Answer.{Answer}
-use Rattle.question.proofs.Steps.{then-good, on-bad}
+use Rattle.questions.specs.Reader.{fromCondition, conditionAt}
+use Rattle.tokens.specs.Words.{clauseBy}
+use Rattle.asked.specs.declared.types.Answer.{Answer}
+use Rattle.questions.proofs.Steps.{then-good, on-bad}
 use Rattle.question.proofs.Chain.{reads-as}
 use borrow.Author.Needs.{needs}
 use Rattle.question.proofs.reader.from_condition.Statement.{statement}

@@ -1,7 +1,7 @@
 use mathlib.Core.Path.{sym, ap, _∙_}
-use Rattle.question.specs.Reader.{fromKind}
-use Rattle.question.specs.Pieces.{byteOf}
-use Rattle.question.proofs.Steps.{then-good, on-bad}
+use Rattle.questions.specs.Reader.{fromKind}
+use Rattle.fields.specs.Bytes.{byteOf}
+use Rattle.questions.proofs.Steps.{then-good, on-bad}
 use Rattle.question.proofs.Chain.{reads-as}
 use borrow.Author.Needs.{needs}
 use Rattle.question.proofs.reader.from_kind.Statement.{statement}

@@ -1,9 +1,9 @@
 use mathlib.Core.Path.{sym, ap, _∙_}
 use native.Mathlib.Omega.{arith}
-use Rattle.question.specs.Reader.{fromTables}
-use Rattle.question.specs.Pieces.{byteOf}
-use Rattle.question.proofs.Steps.{then-good, on-bad}
-use Rattle.question.proofs.FieldLaws.{is-within}
+use Rattle.questions.specs.Reader.{fromTables}
+use Rattle.fields.specs.Bytes.{byteOf}
+use Rattle.questions.proofs.Steps.{then-good, on-bad}
+use Rattle.questions.proofs.FieldLaws.{is-within}
 use Rattle.question.proofs.Chain.{reads-as}
 use borrow.Author.Needs.{needs}
 use Rattle.question.proofs.reader.from_tables.Statement.{statement}

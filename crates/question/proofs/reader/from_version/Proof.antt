@@ -1,6 +1,6 @@
 use borrow.Author.Tests.{le-leb, lt-leb, ne-eqb}
 use native.Mathlib.Omega.{arith}
-use Rattle.question.specs.Reader.{fromVersion}
+use Rattle.questions.specs.Reader.{fromVersion}
 use borrow.Author.Needs.{needs}
 use Rattle.question.proofs.reader.from_version.Statement.{statement}
 use Rattle.question.proofs.reader.from_version.Tie as tie

@@ -3,12 +3,12 @@ use mathlib.Core.Path.{sym, ap, _∙_}
 use mathlib.Core.List.{map-id}
 use denote.Ref.{now}
 use lib.ListN.{take}
-use Rattle.question.specs.Reader.{fromWidths, fromColumns}
-use Rattle.question.specs.Pieces.{listOf}
-use Rattle.question.specs.Held.{widthsOf}
-use Rattle.question.specs.declared.types.Answer.{Answer}
-use Rattle.question.proofs.Answers.{good-so}
-use Rattle.question.proofs.Steps.{then-good, on-bad}
+use Rattle.questions.specs.Reader.{fromWidths, fromColumns}
+use Rattle.asked.specs.Parts.{listOf}
+use Rattle.asked.specs.Held.{widthsOf}
+use Rattle.asked.specs.declared.types.Answer.{Answer}
+use Rattle.asked.proofs.Answers.{good-so}
+use Rattle.questions.proofs.Steps.{then-good, on-bad}
 use Rattle.question.proofs.Chain.{reads-as}
 use borrow.Author.Needs.{needs}
 use Rattle.question.proofs.reader.from_widths.Statement.{statement}

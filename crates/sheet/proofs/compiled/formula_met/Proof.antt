@@ -1,6 +1,6 @@
 use mathlib.Core.Path.{ap, _∙_}
 use Rattle.sheet.specs.NoSheet.{seen}
-use Rattle.sheet.specs.Rows.{readValues}
+use Rattle.sheets.specs.Rows.{readValues}
 use Rattle.sheet.proofs.Lends.{lent-of, count-few, places-few, places-of}
 use Rattle.sheet.proofs.Valued.{seen-read}
 use borrow.Author.Needs.{needs}

@@ -4,7 +4,7 @@ use native.Mathlib.Omega.{arith}
 use lib.ListN.{length, take}
 use lib.Seq.{length-take-le}
 use Rattle.meaning.specs.Limits.{mostVertices}
-use Rattle.grid.proofs.Rows.{sized}
+use Rattle.walks.proofs.Rows.{sized}
 use borrow.Author.Needs.{needs}
 use Rattle.sheet.proofs.compiled.lent_tree.Statement.{statement}
 use Rattle.sheet.proofs.compiled.lent_tree.Tie as tie

@@ -7,9 +7,9 @@ use mir.Syntax.{w64}
 use mir.Val.{SFits}
 use mir.Facts.{toZ-ofZ}
 use Rattle.meaning.specs.Limits.{mostVertices}
-use Rattle.grid.specs.Grid.{farN, AllWithin}
-use Rattle.formula.specs.Vertices.{Ranges}
-use Rattle.sheet.specs.Facts.{confineAll, start}
+use Rattle.walks.specs.Grid.{farN, AllWithin}
+use Rattle.formulae.specs.Vertices.{Ranges}
+use Rattle.sheets.specs.Facts.{confineAll, start}
 use Rattle.sheet.specs.Checking.{Spanned}
 use Rattle.sheet.proofs.Starting.{blank-within, confine-within, small-low, small-high, wider, start-on, start-past, start-end}
 use Rattle.sheet.proofs.facts.start.Statement.{statement}

@@ -5,8 +5,8 @@ use borrow.Author.Needs.{needs}
 use lib.ListN.{length, getD, length-set}
 use mir.Facts.{toZ-ofZ}
 use Rattle.meaning.specs.Limits.{mostVertices}
-use Rattle.grid.proofs.Round.{below-at}
-use Rattle.formula.specs.Cells.{bit}
+use Rattle.walks.proofs.Round.{below-at}
+use Rattle.knowing.specs.Cells.{bit}
 use Rattle.sheet.specs.NoSheet.{testAt}
 use Rattle.sheet.proofs.Valued.{tested-more}
 use Rattle.sheet.proofs.meeting.decisions.Statement.{statement}

@@ -2,7 +2,7 @@ use mathlib.Core.Path.{sym, ap, _∙_}
 use native.Mathlib.Omega.{arith}
 use lib.ListN.{length}
 use lib.Seq.{length-take-le}
-use Rattle.formula.specs.Cells.{threeOf}
+use Rattle.knowing.specs.Cells.{threeOf}
 use Rattle.sheet.proofs.Truths.{met-settles}
 use borrow.Author.Needs.{needs}
 use Rattle.sheet.proofs.meeting.met.Statement.{statement}

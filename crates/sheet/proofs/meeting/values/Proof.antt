@@ -7,7 +7,7 @@ use lib.ListN.{length, getD, length-set}
 use mir.Syntax.{w32, w64}
 use mir.Val.{SFits, toZ, ofZ}
 use mir.Facts.{toZ-ofZ}
-use Rattle.sheet.specs.Rows.{valueAt}
+use Rattle.sheets.specs.Rows.{valueAt}
 use Rattle.sheet.specs.NoSheet.{seen, Small}
 use Rattle.sheet.proofs.Valued.{seen-none, seen-more, small-none, small-more}
 use Rattle.sheet.proofs.meeting.values.Statement.{statement}

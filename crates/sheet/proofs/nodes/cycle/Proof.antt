@@ -4,10 +4,10 @@ use native.Mathlib.Omega.{arith}
 use lib.ListN.{getD, take, drop, length-drop}
 use lib.Seq.{length-take-le}
 use Rattle.meaning.specs.Limits.{mostVertices}
-use Rattle.grid.proofs.Among.{below-more}
+use Rattle.walks.proofs.Among.{below-more}
 use Rattle.sheet.specs.Checking.{Named}
 use Rattle.sheet.specs.declared.nodes.Naming.the-variants.{All, Lacking}
-use Rattle.sheet.proofs.Cycles.{to-the-end, cycle-end, cycle-none, cycle-many, cycle-lacking, cycle-shut, cycle-open}
+use Rattle.sheets.proofs.Cycles.{to-the-end, cycle-end, cycle-none, cycle-many, cycle-lacking, cycle-shut, cycle-open}
 use borrow.Author.Needs.{needs}
 use Rattle.sheet.proofs.nodes.cycle.Statement.{statement}
 use Rattle.sheet.proofs.nodes.cycle.Tie as tie

@@ -4,8 +4,8 @@ use native.Mathlib.Omega.{arith}
 use borrow.Author.Needs.{needs}
 use lib.ListN.{drop}
 use lib.Seq.{length-take-le}
-use Rattle.formula.specs.Cells.{threeOf}
-use Rattle.sheet.specs.Tree.{falseNode, passed}
+use Rattle.knowing.specs.Cells.{threeOf}
+use Rattle.sheets.specs.Tree.{falseNode, passed}
 use Rattle.sheet.proofs.nodes.false_leaf.Statement.{statement}
 use Rattle.sheet.proofs.nodes.false_leaf.Tie as tie
 

@@ -5,10 +5,10 @@ use native.Mathlib.Omega.{arith}
 use borrow.Author.Needs.{needs}
 use borrow.Author.Count.{below-more}
 use lib.ListN.{length, getD, take, List·getD-eq-default}
-use Rattle.grid.specs.Walk.{Below}
-use Rattle.formula.specs.Vertices.{Ranges, present}
+use Rattle.walks.specs.Walk.{Below}
+use Rattle.formulae.specs.Vertices.{Ranges, present}
 use Rattle.sheet.specs.Checking.{Shows}
-use Rattle.sheet.proofs.Named.{AllShown, below-take, named-all, named-short, named-lacking}
+use Rattle.sheets.proofs.Named.{AllShown, below-take, named-all, named-short, named-lacking}
 use Rattle.sheet.proofs.nodes.named.Statement.{statement}
 use Rattle.sheet.proofs.nodes.named.Tie as tie
 

@@ -3,10 +3,10 @@ use mathlib.Core.Path.{_≡_, sym, ap, _∙_}
 use native.Mathlib.Omega.{arith}
 use borrow.Author.Needs.{needs}
 use lib.ListN.{length}
-use Rattle.question.specs.Held.{questionOf}
-use Rattle.sheet.specs.Rows.{fieldAt, fieldOk}
-use Rattle.sheet.specs.Sheet.{Answer, checkFields}
-use Rattle.sheet.proofs.FieldRun.{fields-end, fields-short, fields-bad, fields-on}
+use Rattle.asked.specs.Held.{questionOf}
+use Rattle.sheets.specs.Rows.{fieldAt, fieldOk}
+use Rattle.sheets.specs.Sheet.{Answer, checkFields}
+use Rattle.sheets.proofs.FieldRun.{fields-end, fields-short, fields-bad, fields-on}
 use Rattle.sheet.proofs.rows.fields.Statement.{statement}
 use Rattle.sheet.proofs.rows.fields.Tie as tie
 

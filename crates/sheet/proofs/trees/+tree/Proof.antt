@@ -6,12 +6,12 @@ use borrow.Author.Needs.{needs}
 use lib.ListN.{length, length-map}
 use mir.Facts.{toZ-ofZ}
 use Rattle.meaning.specs.Limits.{mostVertices}
-use Rattle.grid.proofs.Round.{below-at}
-use Rattle.grid.proofs.Grids.{tighten-sized}
-use Rattle.sheet.specs.Facts.{decide}
+use Rattle.walks.proofs.Round.{below-at}
+use Rattle.walks.proofs.Grids.{tighten-sized}
+use Rattle.sheets.specs.Facts.{decide}
 use Rattle.sheet.specs.Checking.{placeAt}
 use Rattle.sheet.proofs.Standing.{left-end, left-false, left-cycle, left-other, left-none, left-bad, left-both}
-use Rattle.sheet.proofs.Bounds.{decide-within}
+use Rattle.sheets.proofs.Bounds.{decide-within}
 use Prim.Native.Nat.{ℕ, _<_}
 use borrow.Fn.Kinds.{In}
 use borrow.Fn.PlainCycle.{Measures, is, falls, and}

@@ -3,11 +3,12 @@ use native.Mathlib.Omega.{arith}
 use Prim.Native.Nat.{_-_, _≤_, _<_}
 use mathlib.Core.Path.{subst}
 use lib.ListN.{length}
-use Rattle.question.specs.Held.{questionOf}
-use Rattle.formula.specs.Formulas.{formulas}
-use Rattle.formula.specs.Able.{noFormula, formulaAt}
-use Rattle.formula.proofs.Proper.{Proper, formulas-proper}
-use Rattle.sheet.proofs.Findings.{all-at}
+use Rattle.asked.specs.Held.{questionOf}
+use Rattle.formulae.specs.Formulas.{formulas}
+use Rattle.formulae.specs.Formulas.{noFormula}
+use Rattle.formula.specs.Able.{formulaAt}
+use Rattle.formulae.proofs.Proper.{Proper, formulas-proper}
+use Rattle.sheets.proofs.Findings.{all-at}
 use Rattle.tableau.proofs.Judges.{FailBefore, fail-more, never, says-yes, says-no}
 use borrow.Author.Needs.{needs}
 use Rattle.tableau.proofs.judging.judge.Statement.{statement}

@@ -7,7 +7,7 @@ use mir.Syntax.{w64}
 use mir.Val.{SFits}
 use mir.Facts.{toZ-ofZ}
 use Rattle.sheet.specs.Checking.{placeAt}
-use Rattle.sheet.specs.Facts.{taken}
+use Rattle.sheets.specs.Facts.{taken}
 use Rattle.writer.specs.Growing.{Fact}
 use Rattle.tableau.proofs.Tightens.{weight-fits, enters-as}
 use borrow.Author.Needs.{needs}

@@ -8,11 +8,11 @@ use mir.Syntax.{w64}
 use mir.Val.{SFits, toZ, ofZ}
 use Rattle.ints.proofs.Bridge.{+law}
 use Rattle.ints.proofs.Machine.{machine}
-use Rattle.grid.specs.Grid.{weight, tighten, tabled}
-use Rattle.grid.specs.Near.{relax}
+use Rattle.walks.specs.Grid.{weight, tighten, tabled}
+use Rattle.walks.specs.Near.{relax}
 use native.Mathlib.Numerals.{add-one}
 use lib.ListN.{length, getD}
-use Rattle.formula.specs.Cells.{threeOf}
+use Rattle.knowing.specs.Cells.{threeOf}
 use Rattle.writer.proofs.Halves.{grows-false, grows-true, grows-end, branch-first, branch-second, side-cut, side-calm}
 use Rattle.writer.proofs.Growths.{near-within, fact-bounded, fact-fits, ready-handed}
 use borrow.Author.Needs.{needs}
@@ -27,7 +27,7 @@ use Rattle.writer.proofs.growing.side.Reads as side
 use Rattle.writer.proofs.growing.side.Kinds as side-kinds
 use Rattle.writer.proofs.growing.+grow+side.Lts-side as side-lts
 use Rattle.grid.proofs.edge.Reads as edge-reads
-use Rattle.grid.proofs.relax_in.Reads as relax-in-reads
+use Rattle.nearing.proofs.relax_in.Reads as relax-in-reads
 use Rattle.grid.proofs.tighten.Reads as tighten-reads
 use Rattle.ints.proofs.weights.negation.Reads as negation-reads
 use Rattle.writer.proofs.growing.cut.Reads as cut-reads

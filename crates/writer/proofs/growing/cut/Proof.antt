@@ -1,7 +1,7 @@
 use mathlib.Core.Path.{sym, ap, _∙_}
 use denote.Ref.{now}
 use mir.Facts.{toZ-ofZ}
-use Rattle.formula.specs.Cells.{threeOf}
+use Rattle.knowing.specs.Cells.{threeOf}
 use Rattle.writer.specs.Room.{filling}
 use Rattle.writer.proofs.Puts.{puts-over}
 use Rattle.writer.proofs.Growths.{cut-false, cut-true, cut-open}

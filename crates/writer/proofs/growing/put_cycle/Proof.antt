@@ -3,7 +3,7 @@ use native.Mathlib.Omega.{arith}
 use lib.ListN.{length, take}
 use lib.Seq.{length-take-le}
 use Rattle.writer.specs.Room.{putOne, puts}
-use Rattle.sheet.specs.Tree.{bytesOf}
+use Rattle.sheets.specs.Tree.{bytesOf}
 use borrow.Author.Needs.{needs}
 use Rattle.writer.proofs.growing.put_cycle.Statement.{statement}
 use Rattle.writer.proofs.growing.put_cycle.Tie as tie

@@ -1,11 +1,11 @@
 use mathlib.Core.Path.{_≡_, sym, ap, ap₂, _∙_, subst}
 use denote.Ref.{now}
 use mir.Facts.{toZ-ofZ}
-use Rattle.grid.specs.Grid.{weight, tighten}
-use Rattle.grid.specs.Search as S
+use Rattle.walks.specs.Grid.{weight, tighten}
+use Rattle.walks.specs.Search as S
 use Rattle.writer.specs.Growing.{Kept}
 use Rattle.writer.specs.Room.{filling, puts}
-use Rattle.sheet.specs.Tree.{bytesOf, cycle}
+use Rattle.sheets.specs.Tree.{bytesOf, cycle}
 use native.Mathlib.Omega.{arith}
 use Prim.Native.Nat.{_+_, _-_}
 use Rattle.writer.proofs.Growths.{kept-next, kept-within, found-list}

@@ -1,12 +1,12 @@
-use Rattle.question.specs.Held.{questionOf}
-use Rattle.sheet.specs.Rows.{fixed}
+use Rattle.asked.specs.Held.{questionOf}
+use Rattle.sheets.specs.Rows.{fixed}
 use mathlib.Core.Option.{none, some}
 use mathlib.Core.List.{_++_, map}
 use lib.ListN.{getD, replicate}
 use mathlib.Core.Path.{sym, ap, _∙_}
 use mir.Facts.{toZ-ofZ}
-use Rattle.sheet.proofs.Allowed.{fixed-insert, fixed-none, fixed-delete, fixed-modify}
-use Rattle.sheet.proofs.Inserted.{orElse}
+use Rattle.allowances.proofs.Allowed.{fixed-insert, fixed-none, fixed-delete, fixed-modify}
+use Rattle.sheets.proofs.Inserted.{orElse}
 use Rattle.writer.proofs.ShownRows.{allowed-stays}
 use borrow.Author.Needs.{needs}
 use Rattle.writer.proofs.showing.change_value.Statement.{statement}

@@ -1,8 +1,8 @@
 use denote.Ref.{now}
 use mathlib.Core.Path.{ap, _∙_}
 use Rattle.meaning.specs.Contents.{Values, look}
-use Rattle.question.specs.Held.{questionOf}
-use Rattle.sheet.specs.Rows.{bytesOfRow}
+use Rattle.asked.specs.Held.{questionOf}
+use Rattle.sheets.specs.Rows.{bytesOfRow}
 use Rattle.writer.specs.Room.{Filling, filling, putOne, puts}
 use Rattle.writer.specs.Showing.{rowsFor}
 use Rattle.writer.proofs.ShownRows.{rows-alike}

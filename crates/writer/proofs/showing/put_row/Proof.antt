@@ -8,8 +8,8 @@ use mir.Val.{ofZ}
 use mir.Facts.{toZ-ofZ}
 use Rattle.ints.specs.Bytes.{bytes4}
 use Rattle.meaning.specs.Contents.{look}
-use Rattle.question.specs.Held.{questionOf}
-use Rattle.sheet.specs.Rows.{bytesOfRow}
+use Rattle.asked.specs.Held.{questionOf}
+use Rattle.sheets.specs.Rows.{bytesOfRow}
 use Rattle.writer.specs.Room.{Filling, filling, puts}
 use Rattle.writer.specs.Showing.{rowFor}
 use Rattle.writer.proofs.ShownRows.{row-length, row-next, row-end}

@@ -1,9 +1,9 @@
 use denote.Ref.{now}
 use mathlib.Core.Path.{ap, _∙_}
 use Rattle.meaning.specs.Contents.{look}
-use Rattle.question.specs.Held.{questionOf}
-use Rattle.formula.specs.Formulas.{rowOf2}
-use Rattle.sheet.specs.Rows.{bytesOfRow}
+use Rattle.asked.specs.Held.{questionOf}
+use Rattle.formulae.specs.Formulas.{rowOf2}
+use Rattle.sheets.specs.Rows.{bytesOfRow}
 use Rattle.writer.specs.Room.{Filling, filling, puts}
 use Rattle.writer.proofs.ShownRows.{rows-two, rows-one}
 use borrow.Author.Needs.{needs}

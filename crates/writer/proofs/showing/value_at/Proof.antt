@@ -2,9 +2,9 @@ use mathlib.Core.Path.{ap, _∙_}
 use native.Mathlib.Omega.{arith}
 use mir.Facts.{toZ-ofZ}
 use Rattle.meaning.specs.Contents.{look}
-use Rattle.question.specs.Held.{questionOf}
-use Rattle.sheet.specs.Rows.{fixed}
-use Rattle.sheet.proofs.Inserted.{orElse}
+use Rattle.asked.specs.Held.{questionOf}
+use Rattle.sheets.specs.Rows.{fixed}
+use Rattle.sheets.proofs.Inserted.{orElse}
 use Rattle.writer.proofs.ShownRows.{vertex-few, second-column, first-column}
 use borrow.Author.Needs.{needs}
 use Rattle.writer.proofs.showing.value_at.Statement.{statement}

@@ -1,0 +1,2 @@
+pub mod RowRun
+pub mod Answers

@@ -1,0 +1,2 @@
+pub mod limits;
+pub mod types;

@@ -1,0 +1,135 @@
+// A modify's modes, one for each column of the changed table, whose columns are numbered from `low` on and below `high`.
+ghost use Prim.Native.Nat.{_≤_};
+ghost use mathlib.Core.Path.{_≡_};
+ghost use mathlib.Core.List.{[]};
+ghost use Rattle.meaning.specs.Limits.{mostColumns};
+ghost use Rattle.questions.specs.Reader.{modeAt, many, andThen};
+ghost use Rattle.asked.specs.Held.{modeOf};
+ghost use Rattle.changes.specs.Deeds.{operandOf, operandsAt, modeNamed, choiceOf, chosenBy, choiceAt, SettingsRead};
+use asked::limits::COLUMNS;
+use asked::types::Answer;
+use asked::types::Mode;
+use asked::types::Setting;
+use fields::fields::Byte;
+use fields::fields::Number;
+use fields::fields::byte_at;
+use fields::fields::number_at;
+
+// A mode's column byte and constant and the offset after them, or a refusal.
+pub enum Operand {
+    Is(u8, i32, usize),
+    Not(u8, usize),
+}
+
+// A mode and the offset after it, or a refusal.
+pub enum Choice {
+    Is(Mode, usize),
+    Not(u8, usize),
+}
+
+// The column byte from `low` on and below `high`, else refusal n; the constant within lo..hi, else refusal m.
+fn operand_at(
+    s: &[u8],
+    n: u8,
+    low: usize,
+    high: usize,
+    m: u8,
+    lo: i32,
+    hi: i32,
+    p: usize,
+) -> Operand
+    ensures { λ r. ⌜ operandOf r ≡ operandsAt (now (s .entry)) n low high m lo hi p ⌝ }
+{
+    let b = byte_at(s, n, low, high, p);
+    match b {
+        Byte::Is(column, q) => {
+            let v = number_at(s, m, lo, hi, q);
+            match v {
+                Number::Is(k, next) => Operand::Is(column, k, next),
+                Number::Not(x, at) => Operand::Not(x, at),
+            }
+        }
+        Byte::Not(x, at) => Operand::Not(x, at),
+    }
+}
+
+fn mode_of(m: u8, column: u8, k: i32) -> Mode
+    ensures { λ r. ⌜ modeOf r ≡ modeNamed m column k ⌝ }
+{
+    match m {
+        0 => Mode::Keep,
+        1 => Mode::Become(k),
+        _ => Mode::Shift(column, k),
+    }
+}
+
+fn chosen(m: u8, o: Operand) -> Choice
+    ensures { λ r. ⌜ choiceOf r ≡ andThen (operandOf o) (chosenBy m) ⌝ }
+{
+    match o {
+        Operand::Is(column, k, next) => Choice::Is(mode_of(m, column, k), next),
+        Operand::Not(n, at) => Choice::Not(n, at),
+    }
+}
+
+// A mode after its byte: keep and constant name no column, keep's constant is 0.
+fn choice_at(s: &[u8], low: usize, high: usize, m: u8, p: usize) -> Choice
+    ensures { λ r. ⌜ choiceOf r ≡ choiceAt (now (s .entry)) low high m p ⌝ }
+{
+    match m {
+        0 => chosen(0, operand_at(s, 4, 255, 256, 4, 0, 0, p)),
+        1 => chosen(1, operand_at(s, 4, 255, 256, 5, -2000000000, 2000000000, p)),
+        _ => chosen(
+            2,
+            operand_at(s, 7, low, high, 5, -2000000000, 2000000000, p),
+        ),
+    }
+}
+
+fn mode_at(s: &[u8], low: usize, high: usize, p: usize) -> Choice
+    ensures { λ r. ⌜ choiceOf r ≡ modeAt (now (s .entry)) low high p ⌝ }
+{
+    let b = byte_at(s, 4, 0, 3, p);
+    match b {
+        Byte::Is(m, q) => choice_at(s, low, high, m, q),
+        Byte::Not(n, at) => Choice::Not(n, at),
+    }
+}
+
+// Settings and the next offset, or a refusal.
+pub struct Settings {
+    pub answer: Answer,
+    pub settings: [Setting; COLUMNS],
+    pub next: usize,
+}
+
+pub fn modes_at(s: &[u8], low: usize, high: usize, n: usize, p: usize) -> Settings
+    requires { ⌜ n ≤ mostColumns ⌝ }
+    ensures { λ r. ⌜ SettingsRead n r (many (λ ms q. modeAt (now (s .entry)) low high q) n [] p) ⌝ }
+{
+    let mut settings = [Setting { mode: Mode::Keep }; COLUMNS];
+    let mut next = p;
+    let mut i = 0;
+    while i < n {
+        let choice = mode_at(s, low, high, next);
+        match choice {
+            Choice::Is(mode, q) => {
+                settings[i] = Setting { mode: mode };
+                next = q;
+                i += 1;
+            }
+            Choice::Not(m, at) => {
+                return Settings {
+                    answer: Answer::Refused(m, at),
+                    settings: settings,
+                    next: at,
+                };
+            }
+        }
+    }
+    Settings {
+        answer: Answer::Good,
+        settings: settings,
+        next: next,
+    }
+}

@@ -1,0 +1,107 @@
+// Inserted rows: each value is tested against its column's range. The changed table's columns are `first` to `first + width - 1`.
+ghost use Prim.Native.Nat.{_+_, _≤_};
+ghost use mathlib.Core.Path.{_≡_};
+ghost use mathlib.Core.List.{[]};
+ghost use lib.ListN.{length};
+ghost use Rattle.meaning.specs.Limits.{mostColumns, mostRows};
+ghost use Rattle.questions.specs.Reader.{rowAt, many};
+ghost use Rattle.changes.specs.Deeds.{LineRead, LinesRead};
+ghost use Rattle.asked.specs.Parts.{rangesAt};
+use asked::limits::COLUMNS;
+use asked::limits::ROWS;
+use asked::types::Answer;
+use asked::types::Column;
+use asked::types::Row;
+use fields::fields::Number;
+use fields::fields::number_at;
+
+// One row's values and the next offset, or a refusal.
+pub struct Line {
+    pub answer: Answer,
+    pub row: Row,
+    pub next: usize,
+}
+
+fn row_at(s: &[u8], columns: [Column; COLUMNS], first: usize, width: usize, p: usize) -> Line
+    requires { ⌜ first + width ≤ mostColumns ⌝ }
+    requires { ⌜ length columns ≡ mostColumns ⌝ }
+    ensures { λ r. ⌜ LineRead width r (rowAt (now (s .entry)) (rangesAt columns first width) p) ⌝ }
+{
+    let mut values = [0i32; COLUMNS];
+    let mut next = p;
+    let mut i = 0;
+    while i < width {
+        let c = columns[first + i];
+        let v = number_at(s, 5, c.lo, c.hi, next);
+        match v {
+            Number::Is(value, q) => {
+                values[i] = value;
+                next = q;
+                i += 1;
+            }
+            Number::Not(n, at) => {
+                return Line {
+                    answer: Answer::Refused(n, at),
+                    row: Row { values: values },
+                    next: at,
+                };
+            }
+        }
+    }
+    Line {
+        answer: Answer::Good,
+        row: Row { values: values },
+        next: next,
+    }
+}
+
+// Rows and the next offset, or a refusal.
+pub struct Lines {
+    pub answer: Answer,
+    pub rows: [Row; ROWS],
+    pub next: usize,
+}
+
+pub fn rows_at(
+    s: &[u8],
+    columns: [Column; COLUMNS],
+    first: usize,
+    width: usize,
+    n: usize,
+    p: usize,
+) -> Lines
+    requires { ⌜ first + width ≤ mostColumns ⌝ }
+    requires { ⌜ length columns ≡ mostColumns ⌝ }
+    requires { ⌜ n ≤ mostRows ⌝ }
+    ensures { λ r. ⌜ LinesRead width n r (many (λ rs q. rowAt (now (s .entry)) (rangesAt columns first width) q) n [] p) ⌝ }
+{
+    let mut rows = [Row {
+        values: [0i32; COLUMNS],
+    }; ROWS];
+    let mut next = p;
+    let mut i = 0;
+    while i < n {
+        let line = row_at(s, columns, first, width, next);
+        let answer = line.answer;
+        match answer {
+            Answer::Good => {
+                let row = line.row;
+                rows[i] = row;
+                next = line.next;
+                i += 1;
+            }
+            Answer::Refused(m, at) => {
+                return Lines {
+                    answer: Answer::Refused(m, at),
+                    rows: rows,
+                    next: at,
+                };
+            }
+        }
+    }
+    Lines {
+        answer: Answer::Good,
+        rows: rows,
+        next: next,
+    }
+}

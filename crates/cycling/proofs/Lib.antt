@@ -1,0 +1,4 @@
+pub mod Kept
+pub mod Firsts
+pub mod Traced
+pub mod Answers

@@ -1,0 +1,13 @@
+pub mod Compiles
+pub mod Pieces
+pub mod Knows
+pub mod Usable
+pub mod Sights
+pub mod Agreement
+pub mod Rows
+pub mod Stands
+pub mod Inserts
+pub mod Sizes
+pub mod Present
+pub mod Proper
+pub mod Examples

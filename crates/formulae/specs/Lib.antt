@@ -1,0 +1,6 @@
+pub mod Program
+pub mod Compile
+pub mod Parts
+pub mod Known
+pub mod Vertices
+pub mod Formulas

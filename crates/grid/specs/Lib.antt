@@ -1,5 +1,0 @@
-pub mod Walk
-pub mod Grid
-pub mod Search
-pub mod Near
-pub mod Found

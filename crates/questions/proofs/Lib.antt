@@ -1,0 +1,15 @@
+pub mod Steps
+pub mod FieldLaws
+pub mod Loops
+pub mod Counts
+pub mod Sums
+pub mod Holds
+pub mod Layouts
+pub mod Conditions
+pub mod Changes
+pub mod Accepts
+pub mod Judges
+pub mod PieceJudges
+pub mod QuestionJudges
+pub mod Refusals
+pub mod Examples

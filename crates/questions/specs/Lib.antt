@@ -1,0 +1,5 @@
+pub mod Layout
+pub mod Reader
+pub mod Fields
+pub mod Faults
+pub mod Accepted

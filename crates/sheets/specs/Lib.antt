@@ -1,0 +1,10 @@
+pub mod Facts
+pub mod Tree
+pub mod Grow
+pub mod Trees
+pub mod Rows
+pub mod Fast
+pub mod Sheet
+pub mod Answers
+pub mod Demands
+pub mod Twelve

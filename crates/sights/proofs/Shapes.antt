@@ -1,0 +1,122 @@
+-- The question that a declared one means: its columns, its changed table, its visible columns.
+use mathlib.Core.Path.{_≡_, refl, sym, ap, ap₂, _∙_}
+use mathlib.Core.Bool.{Bool, true, false, _||_}
+use mathlib.Core.List.{List, [], _∷_, _++_, map}
+use Prim.Native.Nat.{ℕ, zero, suc, _+_, _≤_, _<_}
+use native.Mathlib.Omega.{arith}
+use borrow.Author.Tests.{eq-eqb, ne-eqb}
+use lib.ListN.{length, getD, take, drop, length-map, List·getD-map, length-drop}
+use lib.Seq.{take-add, take-all, drop-drop, getD-take, length-take-le}
+use Rattle.meaning.specs.Contents.{Range, columns, columnsOf, first}
+use Rattle.questions.specs.Layout.{total, firstOf, widthOf, tablesOf, tableOf, visibleFrom, questionFrom}
+use Rattle.questions.specs.Layout as L
+use Rattle.asked.specs.Held.{columnOf, rangesOf, widthsOf, questionOf}
+use Rattle.asked.specs.Held as H
+use Rattle.asked.specs.declared.types.Question.{Question}
+use Rattle.asked.specs.declared.types.Column.{Column}
+use Rattle.formulae.specs.Formulas.{among}
+use Rattle.sights.specs.Partway.{noRange}
+use Rattle.sights.specs.Seen.{Whole, noColumn}
+
+-- ---- tables of given widths, side by side again
+
+side-by-side : (ws : List ℕ) (gs : List Range) → columnsOf (tablesOf ws gs) ≡ take (total ws) gs
+unfolding tablesOf total
+side-by-side [] gs = refl
+side-by-side (w ∷ ws) gs = ap (λ l. take w gs ++ l) (side-by-side ws (drop w gs)) ∙ sym (take-add w (total ws) gs)
+
+-- the columns before a table that has some, its own and those after it
+total-split : (ws : List ℕ) (t : ℕ) → 1 ≤ widthOf ws t → total ws ≡ firstOf ws t + (widthOf ws t + total (drop (suc t) ws))
+unfolding total
+total-split [] t h = absurd (omega arith)
+total-split (w ∷ ws) zero h = omega arith
+total-split (w ∷ ws) (suc t) h = omega (arith, total-split ws t h)
+
+three-parts : (a b c : ℕ) (gs : List Range) → a + (b + c) ≡ length gs → take a gs ++ (take b (drop a gs) ++ take c (drop (a + b) gs)) ≡ gs
+three-parts a b c gs e =
+    ap (λ l. take a gs ++ (take b (drop a gs) ++ take c l)) (sym (drop-drop b a gs))
+    ∙ ap (λ l. take a gs ++ l) (sym (take-add b c (drop a gs)))
+    ∙ sym (take-add a (b + c) gs)
+    ∙ take-all (a + (b + c)) gs (omega arith)
+
+module _ (q : Question) (w : Whole q) where
+  pub ranges-length : length (rangesOf q) ≡ q .shape .total
+  ranges-length = simp length-map (length-take-le (q .shape .total) (q .columns) (omega (arith, w .long, w .held .shape .fewColumns)))
+
+  splits : L.firstOf (widthsOf (q .shape)) (q .shape .changed) + (L.widthOf (widthsOf (q .shape)) (q .shape .changed) + total (drop (suc (q .shape .changed)) (widthsOf (q .shape)))) ≡ length (rangesOf q)
+  splits = omega (arith, ranges-length, total-split (widthsOf (q .shape)) (q .shape .changed) (omega (arith, w .held .shape .someColumn, w .held .shape .width)), w .held .shape .total)
+
+  pub columns-are : columns (questionOf q) ≡ rangesOf q
+  unfolding questionOf questionFrom
+  columns-are =
+      let ws = widthsOf (q .shape) in
+      let t = q .shape .changed in
+      let gs = rangesOf q in
+      ap₂ (λ l r. l ++ (tableOf ws t gs ++ r)) (side-by-side (take t ws) gs) (side-by-side (drop (suc t) ws) (drop (firstOf ws t + widthOf ws t) gs))
+      ∙ three-parts (firstOf ws t) (widthOf ws t) (total (drop (suc t) ws)) gs splits
+
+  pub columns-length : length (columns (questionOf q)) ≡ q .shape .total
+  columns-length = ap length columns-are ∙ ranges-length
+
+  pub first-is : first (questionOf q) ≡ q .shape .first
+  unfolding questionOf questionFrom
+  first-is =
+      let ws = widthsOf (q .shape) in
+      let t = q .shape .changed in
+      ap length (side-by-side (take t ws) (rangesOf q))
+      ∙ length-take-le (firstOf ws t) (rangesOf q) (omega (arith, splits))
+      ∙ sym (w .held .shape .first)
+
+  pub changed-is : questionOf q .changed ≡ take (q .shape .width) (drop (q .shape .first) (rangesOf q))
+  unfolding questionOf questionFrom
+  changed-is = rw (w .held .shape .width, w .held .shape .first) refl
+
+  pub changed-length : length (questionOf q .changed) ≡ q .shape .width
+  changed-length =
+      ap length changed-is
+      ∙ length-take-le (q .shape .width) (drop (q .shape .first) (rangesOf q)) (simp length-drop (omega (arith, ranges-length, w .held .shape .inside)))
+
+-- ---- the visible columns
+
+-- a column before those listed is not among them
+not-below : (cs : List L.Column) (k i : ℕ) → i < k → among (visibleFrom k cs) i ≡ false
+unfolding among visibleFrom
+not-below [] k i h = refl
+not-below (c ∷ cs) k i h = go (c .range) (c .shown) (not-below cs (suc k) i (omega arith))
+  where
+    go : (g : Range) (b : Bool) → among (visibleFrom (suc k) cs) i ≡ false → among (visibleFrom k (record { range = g; shown = b } ∷ cs)) i ≡ false
+    go g true e = ap₂ _||_ (ne-eqb k i (λ x. absurd (omega arith))) e
+    go g false e = e
+
+-- those listed from number k on are the ones shown
+among-shown : (cs : List L.Column) (k i j : ℕ) → j ≡ k + i → among (visibleFrom k cs) j ≡ getD (map (λ c. c .shown) cs) i false
+unfolding among visibleFrom
+among-shown [] k i j e = refl
+among-shown (c ∷ cs) k zero j e = go (c .range) (c .shown) (not-below cs (suc k) j (omega arith))
+  where
+    go : (g : Range) (b : Bool) → among (visibleFrom (suc k) cs) j ≡ false → among (visibleFrom k (record { range = g; shown = b } ∷ cs)) j ≡ b
+    go g true d = ap (λ t. t || among (visibleFrom (suc k) cs) j) (eq-eqb k j (omega arith))
+    go g false d = d
+among-shown (c ∷ cs) k (suc i) j e = go (c .range) (c .shown) (among-shown cs (suc k) i j (omega arith))
+  where
+    go : (g : Range) (b : Bool) → among (visibleFrom (suc k) cs) j ≡ getD (map (λ c. c .shown) cs) i false → among (visibleFrom k (record { range = g; shown = b } ∷ cs)) j ≡ getD (map (λ c. c .shown) cs) i false
+    go g true d = ap₂ _||_ (ne-eqb k j (λ x. absurd (omega arith))) d
+    go g false d = d
+
+-- what a column ranges over
+pub range-at : (q : Question) (i : ℕ) → i < q .shape .total → getD (rangesOf q) i noRange ≡ columnOf (getD (q .columns) i noColumn) .range
+range-at q i h =
+    List·getD-map (λ c. c .range) (H.columnsOf q) i (columnOf noColumn)
+    ∙ ap (λ c. c .range) (List·getD-map columnOf (take (q .shape .total) (q .columns)) i noColumn ∙ ap columnOf (getD-take (q .shape .total) (q .columns) i noColumn h))
+
+pub visible-is : (q : Question) (i : ℕ) → i < q .shape .total → among (questionOf q .visible) i ≡ getD (q .columns) i noColumn .visible
+unfolding questionOf questionFrom
+visible-is q i h =
+    among-shown (H.columnsOf q) 0 i i (omega arith)
+    ∙ List·getD-map (λ c. c .shown) (H.columnsOf q) i (columnOf noColumn)
+    ∙ ap (λ c. c .shown) (List·getD-map columnOf (take (q .shape .total) (q .columns)) i noColumn)
+    ∙ ap (λ c. c .visible) (getD-take (q .shape .total) (q .columns) i noColumn h)
+
+pub condition-is : (q : Question) → questionOf q .condition ≡ H.conditionOf (q .condition)
+unfolding questionOf questionFrom
+condition-is q = refl

@@ -1,0 +1,3 @@
+pub mod joining;
+pub mod seeing;
+pub mod spanning;

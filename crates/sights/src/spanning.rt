@@ -1,0 +1,73 @@
+// The vertices of a formula and what they range over.
+use asked::types::Column;
+use asked::types::Question;
+use ints::weights::wide;
+use programs::types::Vertices;
+ghost use mathlib.Core.List.{[], _∷_, _++_};
+ghost use Prim.Native.Nat.{_<_};
+ghost use Rattle.asked.specs.Held.{columnOf, questionOf};
+ghost use Rattle.meaning.specs.Contents.{columns};
+ghost use Rattle.formulae.specs.Vertices.{Ranges};
+ghost use Rattle.formulae.specs.Formulas.{firstRanges, hiddenRanges};
+ghost use Rattle.sights.specs.Seen.{Whole};
+ghost use Rattle.sights.specs.Spans.{Spans, rangeIf};
+
+// "0 is the constant zero"
+pub fn zero() -> Vertices
+    ensures { λ r. ⌜ Spans r [] ⌝ }
+{
+    let mut present = [false; 17];
+    present[0] = true;
+    Vertices {
+        count: 1,
+        present,
+        lo: [0; 17],
+        hi: [0; 17],
+    }
+}
+
+// The next vertex number: a column's, or none.
+pub fn add(v: Vertices, c: Column, there: bool) -> Vertices
+    requires { ⌜ v .count < 17 ⌝ }
+    ensures { λ r. ⌜ ((rs : Ranges) → Spans v rs → Spans r (rs ++ (rangeIf there (columnOf c .range) ∷ []))) ⌝ }
+{
+    let at = v.count;
+    let mut next = v;
+    next.present[at] = there;
+    next.lo[at] = wide(c.lo);
+    next.hi[at] = wide(c.hi);
+    next.count = at + 1;
+    next
+}
+
+// "1+i column i of the first row"
+pub fn one_row(q: Question) -> Vertices
+    requires { ⌜ Whole q ⌝ }
+    ensures { λ r. ⌜ Spans r (firstRanges (columns (questionOf q))) ⌝ }
+{
+    let n = q.shape.total;
+    let mut v = zero();
+    let mut i = 0;
+    while i < n {
+        let c = q.columns[i];
+        v = add(v, c, true);
+        i += 1;
+    }
+    v
+}
+
+// "1+n+i column i of the second where column i is hidden"
+pub fn two_rows(q: Question) -> Vertices
+    requires { ⌜ Whole q ⌝ }
+    ensures { λ r. ⌜ Spans r (firstRanges (columns (questionOf q)) ++ hiddenRanges (questionOf q .visible) 0 (columns (questionOf q))) ⌝ }
+{
+    let n = q.shape.total;
+    let mut v = one_row(q);
+    let mut i = 0;
+    while i < n {
+        let c = q.columns[i];
+        v = add(v, c, !c.visible);
+        i += 1;
+    }
+    v
+}

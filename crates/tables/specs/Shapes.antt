@@ -1,0 +1,55 @@
+-- What the reader's results for widths and columns mean.
+use Prim.Native.Nat.{ℕ, _≤_, _<_}
+use mathlib.Core.Path.{_≡_}
+use mathlib.Core.Bool.{Bool, true, false}
+use mathlib.Core.List.{List, [], _∷_}
+use lib.Dec.{eqb}
+use lib.IntN.{ℤ}
+use lib.ListN.{length, take, getD}
+use Rattle.meaning.specs.Limits.{mostTables, mostColumns}
+use Rattle.questions.specs.Layout as L
+use Rattle.questions.specs.Reader.{Outcome, bad, At, found, andThen, byte, int, upTo, farthest}
+use Rattle.asked.specs.Held.{columnOf}
+use Rattle.asked.specs.Parts.{listOf, IfGood}
+use Rattle.tables.specs.declared.columns.Pillar.{Pillar}
+use Rattle.tables.specs.declared.columns.Pillar.the-variants as pillar
+use Rattle.tables.specs.declared.columns.Pillars.{Pillars}
+use Rattle.tables.specs.declared.widths.Widths.{Widths}
+
+-- ---- widths
+
+-- the first n widths: 1 to 4 tables, each with a column, and their sum, at most 8
+pub record Counted (n : ℕ) (widths : List ℕ) (total : ℕ) : Type 0 where
+  pub sized : length widths ≡ mostTables
+  pub few : n ≤ mostTables
+  pub sum : total ≡ L.total (take n widths)
+  pub small : total ≤ mostColumns
+  pub each : (j : ℕ) → j < n → 1 ≤ getD widths j 0
+
+-- n widths were read, and o is what 01 gives for them
+pub record WidthsRead (n : ℕ) (r : Widths) (o : Outcome (At (List ℕ))) : Type 0 where
+  pub meaning : listOf (λ (w : ℕ). w) (r .answer) n (r .widths) (r .next) ≡ o
+  pub counted : IfGood (r .answer) (Counted n (r .widths) (r .total))
+
+-- ---- columns
+
+abbrev pub pillarOf : Pillar → Outcome (At L.Column)
+pillarOf (pillar.Is c q) = found (columnOf c) q
+pillarOf (pillar.Not n p) = bad n p
+
+-- a column, from its hi on
+unfoldable pub highAt : List ℕ → ℤ → ℕ → Outcome (At L.Column)
+highAt s lo p =
+    andThen (int s 5 lo farthest p) λ hi p.
+    andThen (byte s 4 0 (upTo 1) p) λ v p.
+    found (record { range = record { lo = lo; hi = hi }; shown = eqb v 1 }) p
+
+-- n columns were read, and o is what 01 gives for them
+pub record PillarsRead (n : ℕ) (r : Pillars) (o : Outcome (At (List L.Column))) : Type 0 where
+  pub meaning : listOf columnOf (r .answer) n (r .columns) (r .next) ≡ o
+  pub sized : length (r .columns) ≡ mostColumns
+
+-- is there one
+abbrev pub some : List ℕ → Bool
+some [] = false
+some (i ∷ is) = true

@@ -1,0 +1,36 @@
+use mathlib.Core.Path.{sym, ap, _∙_}
+use Rattle.fields.specs.Bytes.{byteOf}
+use Rattle.tokens.specs.Words.{tokenWith}
+use Rattle.questions.proofs.Steps.{on-good, on-bad}
+use borrow.Author.Needs.{needs}
+use Rattle.tokens.proofs.token.token_at.Statement.{statement}
+use Rattle.tokens.proofs.token.token_at.Tie as tie
+
+byte-at-requires : tie.Need-byte-at-requires
+byte-at-requires c κs = search needs
+
+enum-known-b : tie.Need-enum-known-b
+enum-known-b c = search needs
+
+word-at-requires : tie.Need-word-at-requires
+word-at-requires c κs = search needs
+
+enum-known-b-2 : tie.Need-enum-known-b-2
+enum-known-b-2 c = search needs
+
+returns : tie.Need-returns
+unfolding tokenWith
+returns c =
+    let b = c .before .before in
+    on-good _ (sym (ap byteOf (b .b .given .1)) ∙ b .before .before .byte-at .ensures) (c .word-at .ensures)
+
+returns-2 : tie.Need-returns-2
+unfolding tokenWith
+returns-2 c =
+    let b = c .before in
+    on-bad _ (sym (ap byteOf (b .b2 .given .1)) ∙ b .before .before .byte-at .ensures)
+
+pub token-at-spec : {M : Type 1} → statement M
+token-at-spec =
+    tie.close
+    (tie.spec byte-at-requires enum-known-b word-at-requires enum-known-b-2 returns returns-2)

@@ -1,0 +1,63 @@
+-- cut from Pieces
+use Prim.Native.Nat.{ℕ, _≤_}
+use mathlib.Core.Bool.{cond}
+use mathlib.Core.Path.{_≡_}
+use mathlib.Core.List.{List, map}
+use lib.ListN.{length, take}
+use lib.Dec.{ltb, leb, eqb}
+use Rattle.meaning.specs.Condition as C
+use Rattle.questions.specs.Reader.{Outcome, bad, At, found, andThen, byte, upTo, rightAt, constantAt, sideOf, comparisonAt, height}
+use Rattle.meaning.specs.Limits.{mostTokens, mostComparisons}
+use Rattle.asked.specs.Held.{kindOf, tokenOf, conditionOf}
+use Rattle.asked.specs.declared.types.Answer.{Answer}
+use Rattle.asked.specs.declared.types.Answer.the-variants.{Good, Refused}
+use Rattle.asked.specs.declared.types.Condition.{Condition}
+use Rattle.tokens.specs.declared.condition.Tokens.{Tokens}
+use Rattle.tokens.specs.declared.condition.Clause.{Clause}
+use Rattle.tokens.specs.declared.token.Word.{Word}
+use Rattle.tokens.specs.declared.token.Word.the-variants as word
+use Rattle.asked.specs.Parts.{listOf, IfGood}
+
+abbrev pub wordOf : Word → Outcome (At C.Token)
+wordOf (word.Is k q) = found (kindOf k) q
+wordOf (word.Not n p) = bad n p
+
+-- a comparison, from its right column on
+unfoldable pub sidesAt : List ℕ → ℕ → ℕ → C.Op → ℕ → ℕ → Outcome (At C.Token)
+sidesAt s low high o i p =
+    andThen (rightAt s low high p) λ r p.
+    andThen (constantAt s p) λ k p.
+    found (C.compare o i (sideOf r k)) p
+
+-- a token that takes so many values, of those that stand
+abbrev pub needsAt : C.Token → ℕ → ℕ → ℕ → ℕ → Outcome (At C.Token)
+needsAt t wants height p q = cond (leb wants height) (found t q) (bad 6 p)
+
+-- the token of number t at p, with its byte before q
+unfoldable pub wordWith : List ℕ → ℕ → ℕ → ℕ → ℕ → ℕ → ℕ → ℕ → Outcome (At C.Token)
+wordWith s low high compared height t p q =
+    cond (eqb t 1) (cond (ltb compared mostComparisons) (comparisonAt s low high q) (bad 4 p))
+    (cond (eqb t 2) (needsAt C.both 2 height p q)
+    (cond (eqb t 3) (needsAt C.either 2 height p q)
+    (needsAt C.negate 1 height p q)))
+
+-- a token, after so many comparisons and with so many values
+unfoldable pub tokenWith : List ℕ → ℕ → ℕ → ℕ → ℕ → ℕ → Outcome (At C.Token)
+tokenWith s low high compared height p = andThen (byte s 6 1 (upTo 4) p) λ t q. wordWith s low high compared height t p q
+
+-- n tokens were read, and o is what 01 gives for them
+pub record TokensRead (n : ℕ) (r : Tokens) (o : Outcome (At C.Condition)) : Type 0 where
+  pub meaning : listOf tokenOf (r .answer) n (r .tokens) (r .next) ≡ o
+  pub stand : IfGood (r .answer) (r .height ≡ height (map tokenOf (take n (r .tokens))))
+  pub sized : length (r .tokens) ≡ mostTokens
+
+-- ---- conditions
+
+abbrev pub clauseBy : Answer → Condition → ℕ → Outcome (At C.Condition)
+clauseBy Good c q = found (conditionOf c) q
+clauseBy (Refused m p) c q = bad m p
+
+-- a condition was read, and o is what 01 gives for it
+pub record ClauseRead (r : Clause) (o : Outcome (At C.Condition)) : Type 0 where
+  pub meaning : clauseBy (r .answer) (r .condition) (r .next) ≡ o
+  pub fewTokens : r .condition .count ≤ mostTokens

@@ -1,0 +1,2 @@
+pub mod condition;
+pub mod token;

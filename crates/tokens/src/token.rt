@@ -1,0 +1,172 @@
+// One token of a condition. The columns that it may name are numbered from `low` on and below `high`.
+ghost use mathlib.Core.Path.{_≡_};
+ghost use Prim.Native.Nat.{_-_, _≤_, _<_};
+ghost use Rattle.questions.specs.Reader.{opOf, sideOf, rightAt, comparisonAt, counted, after};
+ghost use Rattle.asked.specs.Held as held;
+ghost use Rattle.fields.specs.Bytes.{byteOf};
+ghost use Rattle.tokens.specs.Words.{wordOf, sidesAt, needsAt, wordWith, tokenWith};
+use asked::limits::COMPARISONS;
+use asked::types::Kind;
+use asked::types::Op;
+use asked::types::Side;
+use fields::fields::Byte;
+use fields::fields::Number;
+use fields::fields::byte_at;
+use fields::fields::number_at;
+
+// A token and the offset after it, or a refusal.
+pub enum Word {
+    Is(Kind, usize),
+    Not(u8, usize),
+}
+
+fn op_of(o: u8) -> Op
+    ensures { λ r. ⌜ held.opOf r ≡ opOf o ⌝ }
+{
+    match o {
+        1 => Op::Less,
+        2 => Op::AtMost,
+        3 => Op::Equal,
+        4 => Op::AtLeast,
+        5 => Op::More,
+        _ => Op::Unequal,
+    }
+}
+
+// A right column of 255 is none.
+fn side_of(right: u8, k: i32) -> Side
+    ensures { λ r. ⌜ held.sideOf r ≡ sideOf right k ⌝ }
+{
+    if right == 255 {
+        Side::Constant(k)
+    } else {
+        Side::Column(right, k)
+    }
+}
+
+// The right column's byte.
+fn right_at(s: &[u8], low: usize, high: usize, p: usize) -> Byte
+    ensures { λ r. ⌜ byteOf r ≡ rightAt (now (s .entry)) low high p ⌝ }
+{
+    if s.len() <= p {
+        return Byte::Not(1, p);
+    }
+    if s[p] == 255 {
+        return Byte::Is(255, p + 1);
+    }
+    byte_at(s, 7, low, high, p)
+}
+
+// A comparison's right column and constant, after its operator and left column.
+fn sides_at(s: &[u8], low: usize, high: usize, op: Op, left: u8, p: usize) -> Word
+    ensures { λ r. ⌜ wordOf r ≡ sidesAt (now (s .entry)) low high (held.opOf op) left p ⌝ }
+{
+    let b = right_at(s, low, high, p);
+    match b {
+        Byte::Is(right, q) => {
+            let v = number_at(s, 5, -2000000000, 2000000000, q);
+            match v {
+                Number::Is(k, next) => Word::Is(Kind::Compare(op, left, side_of(right, k)), next),
+                Number::Not(n, at) => Word::Not(n, at),
+            }
+        }
+        Byte::Not(n, at) => Word::Not(n, at),
+    }
+}
+
+// A comparison after its token byte.
+fn comparison_at(s: &[u8], low: usize, high: usize, p: usize) -> Word
+    ensures { λ r. ⌜ wordOf r ≡ comparisonAt (now (s .entry)) low high p ⌝ }
+{
+    let b = byte_at(s, 6, 1, 7, p);
+    match b {
+        Byte::Is(o, q) => {
+            let l = byte_at(s, 7, low, high, q);
+            match l {
+                Byte::Is(left, next) => sides_at(s, low, high, op_of(o), left, next),
+                Byte::Not(n, at) => Word::Not(n, at),
+            }
+        }
+        Byte::Not(n, at) => Word::Not(n, at),
+    }
+}
+
+// A token that stands for an operation on the last values, if there are so many.
+fn operation(kind: Kind, wants: usize, height: usize, p: usize, q: usize) -> Word
+    ensures { λ r. ⌜ wordOf r ≡ needsAt (held.kindOf kind) wants height p q ⌝ }
+{
+    if wants <= height {
+        Word::Is(kind, q)
+    } else {
+        Word::Not(6, p)
+    }
+}
+
+// The token of number t at p, whose byte ends before q, after `compared` comparisons and with `height` values.
+fn word_at(
+    s: &[u8],
+    low: usize,
+    high: usize,
+    compared: usize,
+    height: usize,
+    t: u8,
+    p: usize,
+    q: usize,
+) -> Word
+    ensures { λ r. ⌜ wordOf r ≡ wordWith (now (s .entry)) low high compared height t p q ⌝ }
+{
+    match t {
+        1 => {
+            if compared < COMPARISONS {
+                comparison_at(s, low, high, q)
+            } else {
+                Word::Not(4, p)
+            }
+        }
+        2 => operation(Kind::Both, 2, height, p, q),
+        3 => operation(Kind::Either, 2, height, p, q),
+        _ => operation(Kind::Negate, 1, height, p, q),
+    }
+}
+
+pub fn token_at(s: &[u8], low: usize, high: usize, compared: usize, height: usize, p: usize) -> Word
+    ensures { λ r. ⌜ wordOf r ≡ tokenWith (now (s .entry)) low high compared height p ⌝ }
+{
+    let b = byte_at(s, 6, 1, 5, p);
+    match b {
+        Byte::Is(t, q) => word_at(s, low, high, compared, height, t, p, q),
+        Byte::Not(n, at) => Word::Not(n, at),
+    }
+}
+
+// One comparison more, if the token is one.
+pub fn compared_after(compared: usize, kind: Kind) -> usize
+    requires { ⌜ compared < 100 ⌝ }
+    ensures { λ r. ⌜ r ≡ counted compared (held.kindOf kind) ⌝ }
+{
+    match kind {
+        Kind::Compare(_, _, _) => compared + 1,
+        Kind::Both => compared,
+        Kind::Either => compared,
+        Kind::Negate => compared,
+    }
+}
+
+// How many values stand after the token.
+pub fn height_after(height: usize, kind: Kind) -> usize
+    requires { ⌜ height < 100 ⌝ }
+    ensures { λ r. ⌜ r ≡ after height (held.kindOf kind) ⌝ }
+{
+    match kind {
+        Kind::Compare(_, _, _) => height + 1,
+        Kind::Both => less_one(height),
+        Kind::Either => less_one(height),
+        Kind::Negate => height,
+    }
+}
+
+fn less_one(n: usize) -> usize
+    ensures { λ r. ⌜ r ≡ n - 1 ⌝ }
+{
+    if n == 0 { 0 } else { n - 1 }
+}

@@ -1,0 +1,12 @@
+pub mod Pigeon
+pub mod Walks
+pub mod Complete
+pub mod Searches
+pub mod Grids
+pub mod Nears
+pub mod Among
+pub mod Rows
+pub mod Sums
+pub mod Relaxed
+pub mod Round
+pub mod Bests

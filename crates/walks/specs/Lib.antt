@@ -1,0 +1,4 @@
+pub mod Walk
+pub mod Grid
+pub mod Search
+pub mod Near
