@@ -2,12 +2,12 @@
 use Prim.Native.Nat.{ℕ}
 use mathlib.Core.Path.{_≡_, sym, ap, _∙_}
 use mathlib.Core.List.{List}
-use Rattle.asked.specs.Held.{Reads, questionOf}
-use Rattle.asked.specs.declared.types.Answer.the-variants.{Good, Refused}
-use Rattle.asked.specs.declared.types.Reading.{Reading}
-use Rattle.sheets.specs.Answers.{askedOf, judge, verdictOf, unwritten, Done, placed, writeFor, writeOf}
-use Rattle.sheet.proofs.Asks.{asked-means}
-use Rattle.sheets.specs.Sheet.{Verdict, says, refusal, verdictFor, findingOf, sheetOf}
+use Rattle.question.specs.Held.{Reads, questionOf}
+use Rattle.question.specs.declared.types.Answer.the-variants.{Good, Refused}
+use Rattle.question.specs.declared.types.Reading.{Reading}
+use Rattle.page_sheets.specs.Answers.{askedOf, judge, verdictOf, unwritten, Done, placed, writeFor, writeOf}
+use Rattle.asking.proofs.Asks.{asked-means}
+use Rattle.page_sheets.specs.Sheet.{Verdict, says, refusal, verdictFor, findingOf, sheetOf}
 
 module _ (a : ℕ) (s : List ℕ) (r : Reading) (h : Reads r (askedOf a s)) where
   pub verdict-good : r .answer ≡ Good → (v : Verdict) → v ≡ verdictFor (findingOf (questionOf (r .question)) a) → says v ≡ verdictOf a s

@@ -1,4 +1,2 @@
 pub mod Asks
-pub mod Lays
-pub mod Places
 pub mod Promises

@@ -1,17 +1,14 @@
-// The public routines over bytes: the verdict, and the sheet that shows it.
-mod finishing;
-mod laying;
-pub mod types;
-
-use crate::finishing::finish;
-use crate::types::Judged;
-use crate::types::Written;
-use asked::types::Answer;
-use sheet::asking::ask;
+// The public routines over bytes: the verdict, the sheet that shows it, and the check of a sheet.
+use asking::ask;
+use checker::header::from_mark;
+use outcome::Judged;
+use outcome::Written;
+use question::types::Answer;
 use tableau::judging::judge;
+use writer::finishing::finish;
 ghost use mathlib.Core.Path.{_≡_};
-ghost use Rattle.sheets.specs.Answers.{verdictOf, writeOf};
-ghost use Rattle.answers.specs.Told.{judgedOf, doneOf};
+ghost use Rattle.page_sheets.specs.Answers.{verdictOf, writeOf, checkOf};
+ghost use Rattle.outcome.specs.Told.{judgedOf, doneOf};
 
 // The verdict alone: asked 1 irrelevant, 2 computable.
 pub fn verdict(asked: u8, question: &[u8]) -> Judged
@@ -36,5 +33,18 @@ pub fn write(asked: u8, question: &[u8], room: &mut [u8]) -> Written
     match a {
         Answer::Good => finish(room, q, asked),
         Answer::Refused(n, p) => Written::Refused(n, p),
+    }
+}
+
+// The verdict that a sheet shows, or why it shows none.
+pub fn check(asked: u8, question: &[u8], sheet: &[u8]) -> Judged
+    ensures { λ r. ⌜ judgedOf r ≡ checkOf asked (now (question .entry)) (now (sheet .entry)) ⌝ }
+{
+    let r = ask(asked, question);
+    let a = r.answer;
+    let q = r.question;
+    match a {
+        Answer::Good => from_mark(q, asked, sheet),
+        Answer::Refused(n, p) => Judged::Refused(n, p),
     }
 }

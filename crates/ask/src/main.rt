@@ -1,7 +1,7 @@
 // Reads a question from standard input and prints, for either thing that can be asked of it, the verdict and the length of the
 // sheet that shows it.
-use answers::types::Written;
 use libc::STDIN_FILENO;
+use outcome::Written;
 use printing::line_end;
 use printing::text;
 use printing::words;

@@ -7,11 +7,11 @@ use mathlib.Core.List.{List}
 use native.Mathlib.Omega.{arith}
 use lib.ListN.{length}
 use lib.Dec.{eqb, leb}
-use Rattle.questions.specs.Reader.{Read, good, bad, readOf}
-use Rattle.questions.proofs.Refusals.{refused-bounds}
-use Rattle.sheets.specs.Sheet.{Verdict, Answer, says, refusal, sheetOf}
-use Rattle.sheets.specs.Answers.{Written, Done, wrote, unwritten, judge, verdictOf, checkOf, writeFor, writeOf}
-use Rattle.checker.proofs.Numbers.{Given, check-given}
+use Rattle.page_questions.specs.Reader.{Read, good, bad, readOf}
+use Rattle.page_questions.proofs.Refusals.{refused-bounds}
+use Rattle.page_sheets.specs.Sheet.{Verdict, Answer, says, refusal, sheetOf}
+use Rattle.page_sheets.specs.Answers.{Written, Done, wrote, unwritten, judge, verdictOf, checkOf, writeFor, writeOf}
+use Rattle.page_sheets.proofs.Numbers.{Given, check-given}
 use Rattle.capi.specs.Returned.{answer, writing, done}
 
 abbrev Above : Answer → Type 0

@@ -1,8 +1,8 @@
 -- What a function of the C interface leaves on each outcome: its result, and what stands behind its pointers (include/slushtrowel.h).
 use Prim.Native.Nat.{ℕ}
 use mathlib.Core.List.{List}
-use Rattle.sheets.specs.Sheet.{Answer, says, refusal, verdictByte}
-use Rattle.sheets.specs.Answers.{Done, Written, wrote, unwritten}
+use Rattle.page_sheets.specs.Sheet.{Answer, says, refusal, verdictByte}
+use Rattle.page_sheets.specs.Answers.{Done, Written, wrote, unwritten}
 
 -- the result, *verdict, and *place or *length_or_place
 pub record Returned : Type 0 where

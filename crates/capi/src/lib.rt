@@ -1,13 +1,12 @@
 // The three routines for C and whoever speaks to C (include/slushtrowel.h). A slice is a pointer and a length there, a
 // lent number a pointer; the result is 0, or the number that says no.
-use answers::types::Judged;
-use answers::types::Written;
-use sheet::types::Checked;
-use sheet::types::Verdict;
+use outcome::Judged;
+use outcome::Verdict;
+use outcome::Written;
 ghost use mathlib.Core.Path.{_≡_};
-ghost use Rattle.sheets.specs.Sheet.{verdictByte};
-ghost use Rattle.sheets.specs.Answers.{verdictOf, writeOf, checkOf};
-ghost use Rattle.sheet.specs.Answered as answered;
+ghost use Rattle.page_sheets.specs.Sheet.{verdictByte};
+ghost use Rattle.page_sheets.specs.Answers.{verdictOf, writeOf, checkOf};
+ghost use Rattle.outcome.specs.Told as answered;
 ghost use Rattle.capi.specs.Returned.{leaves, leavesRoom, answer, done};
 
 // What the verdict's place holds where there is none: no caller takes it for a verdict.
@@ -76,14 +75,14 @@ pub extern "C" fn vu_check(
 ) -> u8
     ensures { λ r. ⌜ leaves r (now (verdict .exit)) (now (place .exit)) ≡ answer (checkOf asked (now (question .entry)) (now (sheet .entry))) ⌝ }
 {
-    let told = checker::check(asked, question, sheet);
+    let told = answers::check(asked, question, sheet);
     match told {
-        Checked::Passes(v) => {
+        Judged::Says(v) => {
             *verdict = byte_of(v);
             *place = 0;
             0
         }
-        Checked::Refused(number, at) => {
+        Judged::Refused(number, at) => {
             *verdict = NO_VERDICT;
             *place = at as u64;
             number

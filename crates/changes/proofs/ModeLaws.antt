@@ -3,7 +3,7 @@ use mathlib.Core.Path.{_≡_, refl}
 use mathlib.Core.List.{List}
 use Prim.Native.Nat.{ℕ}
 use lib.IntN.{ℤ}
-use Rattle.questions.specs.Reader.{Outcome, good, bad, At, found, andThen, byte, int}
+use Rattle.page_questions.specs.Reader.{Outcome, good, bad, At, found, andThen, byte, int}
 use Rattle.changes.specs.Deeds.{Operands, operandsAt}
 
 -- what follows both follows the constant

@@ -5,13 +5,13 @@ use mathlib.Core.Path.{_≡_}
 use mathlib.Core.List.{List}
 use lib.Dec.{eqb}
 use lib.IntN.{ℤ}
-use Rattle.meaning.specs.Contents as M
-use Rattle.questions.specs.Reader.{Outcome, bad, At, found, andThen, byte, int, keepAt, becomeAt, shiftAt}
-use Rattle.asked.specs.Held.{rowOf, modeOf, settingOf, changeOf, ChangeHeld}
-use Rattle.asked.specs.declared.types.Answer.{Answer}
-use Rattle.asked.specs.declared.types.Answer.the-variants.{Good, Refused}
-use Rattle.asked.specs.declared.types.Row.{Row}
-use Rattle.asked.specs.declared.types.Change.{Change}
+use Rattle.page_meaning.specs.Contents as M
+use Rattle.page_questions.specs.Reader.{Outcome, bad, At, found, andThen, byte, int, keepAt, becomeAt, shiftAt}
+use Rattle.question.specs.Held.{rowOf, modeOf, settingOf, changeOf, ChangeHeld}
+use Rattle.question.specs.declared.types.Answer.{Answer}
+use Rattle.question.specs.declared.types.Answer.the-variants.{Good, Refused}
+use Rattle.question.specs.declared.types.Row.{Row}
+use Rattle.question.specs.declared.types.Change.{Change}
 use Rattle.changes.specs.declared.change.Deed.{Deed}
 use Rattle.changes.specs.declared.rows.Line.{Line}
 use Rattle.changes.specs.declared.modes.Operand.{Operand}
@@ -20,7 +20,7 @@ use Rattle.changes.specs.declared.modes.Choice.{Choice}
 use Rattle.changes.specs.declared.modes.Choice.the-variants as choice
 use Rattle.changes.specs.declared.modes.Settings.{Settings}
 use Rattle.changes.specs.declared.rows.Lines.{Lines}
-use Rattle.asked.specs.Parts.{listOf}
+use Rattle.question.specs.Parts.{listOf}
 
 abbrev pub lineBy : Answer → ℕ → Row → ℕ → Outcome (At M.Values)
 lineBy Good width r q = found (rowOf width r) q

@@ -2,18 +2,18 @@
 ghost use Prim.Native.Nat.{_≤_};
 ghost use mathlib.Core.Path.{_≡_};
 ghost use mathlib.Core.List.{[]};
-ghost use Rattle.meaning.specs.Limits.{mostColumns};
-ghost use Rattle.questions.specs.Reader.{modeAt, many, andThen};
-ghost use Rattle.asked.specs.Held.{modeOf};
+ghost use Rattle.page_meaning.specs.Limits.{mostColumns};
+ghost use Rattle.page_questions.specs.Reader.{modeAt, many, andThen};
+ghost use Rattle.question.specs.Held.{modeOf};
 ghost use Rattle.changes.specs.Deeds.{operandOf, operandsAt, modeNamed, choiceOf, chosenBy, choiceAt, SettingsRead};
-use asked::limits::COLUMNS;
-use asked::types::Answer;
-use asked::types::Mode;
-use asked::types::Setting;
 use fields::fields::Byte;
 use fields::fields::Number;
 use fields::fields::byte_at;
 use fields::fields::number_at;
+use question::limits::COLUMNS;
+use question::types::Answer;
+use question::types::Mode;
+use question::types::Setting;
 
 // A mode's column byte and constant and the offset after them, or a refusal.
 pub enum Operand {

@@ -3,17 +3,17 @@ ghost use Prim.Native.Nat.{_+_, _≤_};
 ghost use mathlib.Core.Path.{_≡_};
 ghost use mathlib.Core.List.{[]};
 ghost use lib.ListN.{length};
-ghost use Rattle.meaning.specs.Limits.{mostColumns, mostRows};
-ghost use Rattle.questions.specs.Reader.{rowAt, many};
+ghost use Rattle.page_meaning.specs.Limits.{mostColumns, mostRows};
+ghost use Rattle.page_questions.specs.Reader.{rowAt, many};
 ghost use Rattle.changes.specs.Deeds.{LineRead, LinesRead};
-ghost use Rattle.asked.specs.Parts.{rangesAt};
-use asked::limits::COLUMNS;
-use asked::limits::ROWS;
-use asked::types::Answer;
-use asked::types::Column;
-use asked::types::Row;
+ghost use Rattle.question.specs.Parts.{rangesAt};
 use fields::fields::Number;
 use fields::fields::number_at;
+use question::limits::COLUMNS;
+use question::limits::ROWS;
+use question::types::Answer;
+use question::types::Column;
+use question::types::Row;
 
 // One row's values and the next offset, or a refusal.
 pub struct Line {

@@ -1,9 +1,9 @@
 // The contents that a no sheet means: one row a table from its values; for an insert the changed table is empty; where two contents
 // are meant and there is one row, the second are all empty.
-use asked::types::Verb;
 use printing::line_end;
 use printing::numbers;
 use printing::text;
+use question::types::Verb;
 
 // What a line of the table shows: the columns' numbers, the values of some columns, or those of all others.
 enum Part {
@@ -85,7 +85,7 @@ fn small(n: usize) -> u8 {
 }
 
 pub fn show(asked: u8, question: &[u8], sheet: &[u8]) {
-    let reading = question::read(question);
+    let reading = reader::read(question);
     let question = reading.question;
     let shape = question.shape;
     let change = question.change;

@@ -5,11 +5,11 @@ mod contents;
 use files::Started;
 use files::Taken;
 use libc::STDERR_FILENO;
+use outcome::Judged;
+use outcome::Verdict;
 use printing::line_end;
 use printing::text;
 use printing::words;
-use sheet::types::Checked;
-use sheet::types::Verdict;
 
 fn passes(verdict: Verdict, asked: u8, question: &[u8], sheet: &[u8]) {
     text(b"passes ");
@@ -22,10 +22,10 @@ fn passes(verdict: Verdict, asked: u8, question: &[u8], sheet: &[u8]) {
 }
 
 fn work(asked: u8, question: &[u8], sheet: &[u8]) {
-    let checked = checker::check(asked, question, sheet);
+    let checked = answers::check(asked, question, sheet);
     match checked {
-        Checked::Passes(verdict) => passes(verdict, asked, question, sheet),
-        Checked::Refused(number, place) => words::explained(number, place),
+        Judged::Says(verdict) => passes(verdict, asked, question, sheet),
+        Judged::Refused(number, place) => words::explained(number, place),
     }
 }
 

@@ -4,12 +4,12 @@ use mathlib.Core.Path.{_≡_, ap, _∙_}
 use mathlib.Core.Bool.{Bool, true, false, cond}
 use mathlib.Core.List.{List}
 use native.Mathlib.Omega.{arith}
-use Rattle.meaning.specs.Contents.{Question}
-use Rattle.formulae.specs.Formulas.{Formula}
-use Rattle.sheet.specs.declared.rows.Reading.{Reading}
-use Rattle.sheets.specs.Rows.{fields, fieldOk}
-use Rattle.sheets.specs.Sheet.{checkFields, noEnd, checkRows}
-use Rattle.sheet.specs.NoSheet.{afterFields, FieldsRead}
+use Rattle.page_meaning.specs.Contents.{Question}
+use Rattle.page_formulas.specs.Formulas.{Formula}
+use Rattle.checker_rows.specs.declared.fields.Reading.{Reading}
+use Rattle.page_sheets.specs.Rows.{fields, fieldOk}
+use Rattle.page_sheets.specs.Sheet.{checkFields, noEnd, checkRows}
+use Rattle.checker_rows.specs.NoSheet.{afterFields, FieldsRead}
 
 -- two rows at most
 pub two-most : (pairs : Bool) (n : ℕ) → cond pairs (n + n) n ≤ n + n

@@ -6,20 +6,19 @@ use native.Mathlib.Numerals.{add-one}
 use native.Mathlib.Omega.{arith}
 use lib.ListN.{length, drop, length-append, drop-of-length-le}
 use lib.Seq.{drop-cons, drop-drop}
-use Rattle.meaning.specs.Limits.{mostVertices}
-use Rattle.formulae.specs.Formulas.{Formula}
-use Rattle.formulae.specs.Formulas.{noFormula}
+use Rattle.page_meaning.specs.Limits.{mostVertices}
+use Rattle.page_formulas.specs.Formulas.{Formula, noFormula}
 use Rattle.formula.specs.Able.{formulaAt}
-use Rattle.formulae.specs.Program.{places}
-use Rattle.sheet.specs.declared.nodes.Past.{Past}
-use Rattle.sheet.specs.declared.nodes.Past.the-variants.{At, Refused}
-use Rattle.sheets.specs.Facts.{start}
-use Rattle.sheets.specs.Tree.{Outcome, passed, refused, andThen, checkTree}
-use Rattle.sheets.specs.Trees.{checkTrees}
-use Rattle.sheets.specs.Sheet.{Answer, says, sayYes, refusal, yesEnd}
-use Rattle.sheet.specs.Checking.{outcomeOf}
-use Rattle.sheets.proofs.HandsOn.{HandsOn, check-hands}
-use Rattle.sheets.proofs.Positions.{trees-next, trees-end}
+use Rattle.page_formulas.specs.Program.{places}
+use Rattle.checker_trees.specs.declared.nodes.Past.{Past}
+use Rattle.checker_trees.specs.declared.nodes.Past.the-variants.{At, Refused}
+use Rattle.page_sheets.specs.Facts.{start}
+use Rattle.page_sheets.specs.Tree.{Outcome, passed, refused, andThen, checkTree}
+use Rattle.page_sheets.specs.Trees.{checkTrees}
+use Rattle.page_sheets.specs.Sheet.{Answer, says, sayYes, refusal, yesEnd}
+use Rattle.checker_trees.specs.Checking.{outcomeOf}
+use Rattle.page_sheets.proofs.HandsOn.{HandsOn, check-hands}
+use Rattle.page_sheets.proofs.Positions.{trees-next, trees-end}
 
 -- ---- a tree ends, or is refused, within the part that was lent
 

@@ -3,8 +3,8 @@ use Prim.Native.Nat.{ℕ}
 use mathlib.Core.List.{List}
 use lib.ListN.{getD}
 use lib.Dec.{eqb, leb}
-use Rattle.meaning.specs.Contents.{Question}
-use Rattle.sheets.specs.Sheet.{Answer, field, checkBody}
+use Rattle.page_meaning.specs.Contents.{Question}
+use Rattle.page_sheets.specs.Sheet.{Answer, field, checkBody}
 
 -- "asked (1 or 2, as the caller asked); verdict (0 yes, 1 no)"
 abbrev pub fromAsked : Question → ℕ → List ℕ → Answer

@@ -1,28 +1,27 @@
 // A no sheet: the number of a formula, the values of its rows, and then the end.
-use asked::types::Question;
+use checker_rows::fields::Reading;
+use checker_rows::fields::fields;
+use checker_rows::formulas::formula_met;
 use formula::formulas::formula;
 use formula::formulas::formula_count;
-use programs::types::Formula;
-use sheet::compiled::formula_met;
-use sheet::rows::Reading;
-use sheet::rows::fields;
-use sheet::types::Checked;
-use sheet::types::Verdict;
+use outcome::Judged;
+use outcome::Verdict;
+use program::types::Formula;
+use question::types::Question;
 ghost use mathlib.Core.Path.{_≡_};
 ghost use mathlib.Core.Bool.{cond};
 ghost use Prim.Native.Nat.{_+_, _≤_, _<_};
 ghost use lib.ListN.{length};
-ghost use Rattle.meaning.specs.Contents as meant;
-ghost use Rattle.meaning.specs.Limits.{mostColumns, mostVertices};
-ghost use Rattle.asked.specs.Held.{Held, questionOf};
-ghost use Rattle.questions.specs.Accepted.{Accepted};
-ghost use Rattle.formulae.specs.Formulas.{formulas};
-ghost use Rattle.formulae.specs.Formulas as spec;
-ghost use Rattle.sights.specs.Spans.{Compiled};
-ghost use Rattle.sheets.specs.Rows as rows;
-ghost use Rattle.sheets.specs.Sheet.{says, sayNo, refusal, noEnd, checkRows, checkNo};
-ghost use Rattle.sheet.specs.Answered.{checkedOf};
-ghost use Rattle.sheet.specs.Checking.{Fine};
+ghost use Rattle.page_meaning.specs.Contents as meant;
+ghost use Rattle.page_meaning.specs.Limits.{mostColumns, mostVertices};
+ghost use Rattle.question.specs.Held.{Held, questionOf};
+ghost use Rattle.page_questions.specs.Accepted.{Accepted};
+ghost use Rattle.page_formulas.specs.Formulas.{formulas};
+ghost use Rattle.page_formulas.specs.Formulas as spec;
+ghost use Rattle.program.specs.Compiled.{Compiled, Fine};
+ghost use Rattle.page_sheets.specs.Rows as rows;
+ghost use Rattle.page_sheets.specs.Sheet.{says, sayNo, refusal, noEnd, checkRows, checkNo};
+ghost use Rattle.outcome.specs.Told.{judgedOf};
 
 // How many values the rows have, by whether there are two rows.
 fn value_count(total: usize, pairs: bool) -> usize
@@ -33,22 +32,22 @@ fn value_count(total: usize, pairs: bool) -> usize
 }
 
 // After the values: a failing formula comes before bytes that are left.
-fn ending(met: bool, ended: bool) -> Checked
-    ensures { λ r. ⌜ checkedOf r ≡ cond met (cond ended (says sayNo) (refusal 16 0)) (refusal 15 7) ⌝ }
+fn ending(met: bool, ended: bool) -> Judged
+    ensures { λ r. ⌜ judgedOf r ≡ cond met (cond ended (says sayNo) (refusal 16 0)) (refusal 15 7) ⌝ }
 {
     if met {
         if ended {
-            return Checked::Passes(Verdict::No);
+            return Judged::Says(Verdict::No);
         }
-        return Checked::Refused(16, 0);
+        return Judged::Refused(16, 0);
     }
-    Checked::Refused(15, 7)
+    Judged::Refused(15, 7)
 }
 
 // What a sheet comes to whose values, so many, may all stand there.
-fn rows_end(f: Formula, sheet: &[u8], count: usize) -> Checked
+fn rows_end(f: Formula, sheet: &[u8], count: usize) -> Judged
     requires { ⌜ Fine f × (count < mostVertices) × (rows.fieldAt count ≤ length (now sheet)) ⌝ }
-    ensures { λ r. ⌜ ((F : spec.Formula) (q : meant.Question) → Compiled f F → count ≡ rows.fields q F → checkedOf r ≡ noEnd q F (now (sheet .entry))) ⌝ }
+    ensures { λ r. ⌜ ((F : spec.Formula) (q : meant.Question) → Compiled f F → count ≡ rows.fields q F → judgedOf r ≡ noEnd q F (now (sheet .entry))) ⌝ }
 {
     let met = formula_met(f, sheet, count);
     let ended = sheet.len() <= 8 + 4 * count;
@@ -56,30 +55,30 @@ fn rows_end(f: Formula, sheet: &[u8], count: usize) -> Checked
 }
 
 // The values from the first on, for formula i.
-fn formula_rows(q: Question, i: usize, f: Formula, sheet: &[u8]) -> Checked
+fn formula_rows(q: Question, i: usize, f: Formula, sheet: &[u8]) -> Judged
     requires { ⌜ Held q × Fine f × (8 ≤ length (now sheet)) ⌝ }
-    ensures { λ r. ⌜ ((F : spec.Formula) → Compiled f F → checkedOf r ≡ checkRows (questionOf q) i F (now (sheet .entry))) ⌝ }
+    ensures { λ r. ⌜ ((F : spec.Formula) → Compiled f F → judgedOf r ≡ checkRows (questionOf q) i F (now (sheet .entry))) ⌝ }
 {
     let count = value_count(q.shape.total, f.pairs);
     let reading = fields(q, i, sheet, count);
     match reading {
         Reading::All => rows_end(f, sheet, count),
-        Reading::Refused(number, place) => Checked::Refused(number, place),
+        Reading::Refused(number, place) => Judged::Refused(number, place),
     }
 }
 
 // The formula's number, then its rows.
-pub fn no_sheet(q: Question, asked: u8, sheet: &[u8]) -> Checked
+pub fn no_sheet(q: Question, asked: u8, sheet: &[u8]) -> Judged
     requires { ⌜ Held q × Accepted (questionOf q) ⌝ }
-    ensures { λ r. ⌜ checkedOf r ≡ checkNo (questionOf q) (formulas (questionOf q) asked) (now (sheet .entry)) ⌝ }
+    ensures { λ r. ⌜ judgedOf r ≡ checkNo (questionOf q) (formulas (questionOf q) asked) (now (sheet .entry)) ⌝ }
 {
     if sheet.len() < 8 {
-        return Checked::Refused(11, 7);
+        return Judged::Refused(11, 7);
     }
     let i = sheet[7] as usize;
     let n = formula_count(q, asked);
     if n <= i {
-        return Checked::Refused(14, 7);
+        return Judged::Refused(14, 7);
     }
     let f = formula(q, asked, i);
     formula_rows(q, i, f, sheet)

@@ -1,24 +1,24 @@
 // A yes sheet: one tree per formula, and then the end.
-use asked::types::Question;
+use checker_trees::formulas::formula_tree;
+use checker_trees::nodes::Past;
 use formula::formulas::formula;
 use formula::formulas::formula_count;
-use sheet::compiled::formula_tree;
-use sheet::nodes::Past;
-use sheet::types::Checked;
-use sheet::types::Verdict;
+use outcome::Judged;
+use outcome::Verdict;
+use question::types::Question;
 ghost use mathlib.Core.Path.{_≡_};
 ghost use Prim.Native.Nat.{_≤_};
 ghost use lib.ListN.{length};
-ghost use Rattle.asked.specs.Held.{Held, questionOf};
-ghost use Rattle.questions.specs.Accepted.{Accepted};
-ghost use Rattle.formulae.specs.Formulas.{formulas};
-ghost use Rattle.sheets.specs.Sheet.{checkYes};
-ghost use Rattle.sheet.specs.Answered.{checkedOf};
+ghost use Rattle.question.specs.Held.{Held, questionOf};
+ghost use Rattle.page_questions.specs.Accepted.{Accepted};
+ghost use Rattle.page_formulas.specs.Formulas.{formulas};
+ghost use Rattle.page_sheets.specs.Sheet.{checkYes};
+ghost use Rattle.outcome.specs.Told.{judgedOf};
 
 // Each tree's check is lent the part of the sheet after the last one's end.
-pub fn yes_sheet(q: Question, asked: u8, sheet: &[u8]) -> Checked
+pub fn yes_sheet(q: Question, asked: u8, sheet: &[u8]) -> Judged
     requires { ⌜ Held q × Accepted (questionOf q) × (7 ≤ length (now sheet)) ⌝ }
-    ensures { λ r. ⌜ checkedOf r ≡ checkYes (formulas (questionOf q) asked) (now (sheet .entry)) ⌝ }
+    ensures { λ r. ⌜ judgedOf r ≡ checkYes (formulas (questionOf q) asked) (now (sheet .entry)) ⌝ }
 {
     let n = formula_count(q, asked);
     let mut at: usize = 7;
@@ -33,12 +33,12 @@ pub fn yes_sheet(q: Question, asked: u8, sheet: &[u8]) -> Checked
                 i += 1;
             }
             Past::Refused(number, p) => {
-                return Checked::Refused(number, at + p);
+                return Judged::Refused(number, at + p);
             }
         }
     }
     if at < sheet.len() {
-        return Checked::Refused(16, 0);
+        return Judged::Refused(16, 0);
     }
-    Checked::Passes(Verdict::Yes)
+    Judged::Says(Verdict::Yes)
 }

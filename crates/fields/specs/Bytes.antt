@@ -1,7 +1,7 @@
 -- cut from Pieces
 use Prim.Native.Nat.{ℕ}
 use lib.IntN.{ℤ}
-use Rattle.questions.specs.Reader.{Outcome, bad, At, found}
+use Rattle.page_questions.specs.Reader.{Outcome, bad, At, found}
 use Rattle.fields.specs.declared.fields.Byte.{Byte}
 use Rattle.fields.specs.declared.fields.Byte.the-variants as bytes
 use Rattle.fields.specs.declared.fields.Number.{Number}

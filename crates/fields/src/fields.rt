@@ -1,6 +1,6 @@
 // The two sorts of field that follow the version: a byte and an i32, each tested for length, then for its value.
 ghost use mathlib.Core.Path.{_≡_};
-ghost use Rattle.questions.specs.Reader.{byte, int};
+ghost use Rattle.page_questions.specs.Reader.{byte, int};
 ghost use Rattle.fields.specs.Bytes.{byteOf, numberOf};
 
 // A value and the offset after it, or a refusal's number and place.

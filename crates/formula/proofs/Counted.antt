@@ -8,13 +8,13 @@ use lib.Dec.{eqb}
 use borrow.Author.Tests.{eq-eqb, ne-eqb}
 use lib.ListN.{length, take, drop, length-map, length-drop}
 use lib.Seq.{length-take-le}
-use Rattle.meaning.specs.Contents.{Range, Table}
-use Rattle.meaning.specs.Contents as M
-use Rattle.questions.specs.Layout.{tablesOf, firstOf, widthOf, questionFrom}
-use Rattle.asked.specs.Held.{rowOf, rangesOf, widthsOf, questionOf}
-use Rattle.asked.specs.declared.types.Question.{Question}
-use Rattle.asked.specs.declared.types.Verb.the-variants.{Insert, Delete, Modify}
-use Rattle.formulae.specs.Formulas as F
+use Rattle.page_meaning.specs.Contents.{Range, Table}
+use Rattle.page_meaning.specs.Contents as M
+use Rattle.page_questions.specs.Layout.{tablesOf, firstOf, widthOf, questionFrom}
+use Rattle.question.specs.Held.{rowOf, rangesOf, widthsOf, questionOf}
+use Rattle.question.specs.declared.types.Question.{Question}
+use Rattle.question.specs.declared.types.Verb.the-variants.{Insert, Delete, Modify}
+use Rattle.page_formulas.specs.Formulas as F
 use Rattle.formula.specs.Able.{Able, Widths, deed, settledModes}
 use Rattle.formula.proofs.Numbered.{by, by-delete, by-modify}
 

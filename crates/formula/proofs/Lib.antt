@@ -4,3 +4,4 @@ pub mod PutIns
 pub mod Numbered
 pub mod Ready
 pub mod Counted
+pub mod Fines

@@ -7,15 +7,15 @@ use native.Mathlib.Omega.{arith}
 use lib.Dec.{eqb}
 use lib.ListN.{length, take, length-map}
 use lib.Seq.{length-take-le}
-use Rattle.meaning.specs.Condition.{Condition}
-use Rattle.meaning.specs.Contents.{Table, insert, delete, modify}
-use Rattle.meaning.specs.Contents as M
-use Rattle.questions.specs.Layout.{questionFrom}
-use Rattle.asked.specs.Held.{changeBy, changeOf, rowOf, questionOf}
-use Rattle.asked.specs.declared.types.Question.{Question}
-use Rattle.asked.specs.declared.types.Verb.{Verb}
-use Rattle.asked.specs.declared.types.Verb.the-variants.{Insert, Delete, Modify}
-use Rattle.formulae.specs.Formulas as F
+use Rattle.page_meaning.specs.Condition.{Condition}
+use Rattle.page_meaning.specs.Contents.{Table, insert, delete, modify}
+use Rattle.page_meaning.specs.Contents as M
+use Rattle.page_questions.specs.Layout.{questionFrom}
+use Rattle.question.specs.Held.{changeBy, changeOf, rowOf, questionOf}
+use Rattle.question.specs.declared.types.Question.{Question}
+use Rattle.question.specs.declared.types.Verb.{Verb}
+use Rattle.question.specs.declared.types.Verb.the-variants.{Insert, Delete, Modify}
+use Rattle.page_formulas.specs.Formulas as F
 use Rattle.formula.specs.Able.{Able, deed, settledModes, askedOf}
 
 pub change-is : (q : Question) → questionOf q .change ≡ changeOf (q .shape .width) (q .change)

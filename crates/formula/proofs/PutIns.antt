@@ -7,16 +7,15 @@ use native.Mathlib.Omega.{arith}
 use lib.IntN.{ℤ, pos}
 use lib.ListN.{length, getD, take, set, length-map, length-set, List·getD-map}
 use lib.Seq.{take-suc, take-suc-set, take-all, getD-take, length-take-le}
-use Rattle.meaning.specs.Contents.{become}
-use Rattle.asked.specs.Held.{settingOf}
-use Rattle.asked.specs.Held.{questionOf}
-use Rattle.asked.specs.Held as H
-use Rattle.asked.specs.declared.types.Question.{Question}
-use Rattle.asked.specs.declared.types.Row.{Row}
-use Rattle.asked.specs.declared.types.Setting.{Setting}
-use Rattle.asked.specs.declared.types.Mode.the-variants.{Become}
-use Rattle.formulae.specs.Formulas as F
-use Rattle.formulae.specs.Formulas.{noFormula}
+use Rattle.page_meaning.specs.Contents.{become}
+use Rattle.question.specs.Held.{settingOf, questionOf}
+use Rattle.question.specs.Held as H
+use Rattle.question.specs.declared.types.Question.{Question}
+use Rattle.question.specs.declared.types.Row.{Row}
+use Rattle.question.specs.declared.types.Setting.{Setting}
+use Rattle.question.specs.declared.types.Mode.the-variants.{Become}
+use Rattle.page_formulas.specs.Formulas as F
+use Rattle.page_formulas.specs.Formulas.{noFormula}
 use Rattle.formula.specs.Able.{Becomes, Able, formulaAt}
 
 -- the first j are put in

@@ -2,18 +2,18 @@
 use mathlib.Core.Path.{_≡_, subst}
 use Prim.Native.Nat.{ℕ, _<_}
 use lib.ListN.{length}
-use Rattle.meaning.specs.Contents.{columns}
-use Rattle.meaning.specs.WellFormed.{Uses, Reads}
-use Rattle.asked.specs.Held.{conditionOf, changeBy, questionOf, Held}
-use Rattle.questions.specs.Accepted.{Accepted, ConditionOk, ChangeAccepted}
-use Rattle.asked.specs.declared.types.Question.{Question}
-use Rattle.asked.specs.declared.types.Verb.{Verb}
-use Rattle.asked.specs.declared.types.Verb.the-variants.{Insert, Delete, Modify}
+use Rattle.page_meaning.specs.Contents.{columns}
+use Rattle.page_meaning.specs.WellFormed.{Uses, Reads}
+use Rattle.question.specs.Held.{conditionOf, changeBy, questionOf, Held}
+use Rattle.page_questions.specs.Accepted.{Accepted, ConditionOk, ChangeAccepted}
+use Rattle.question.specs.declared.types.Question.{Question}
+use Rattle.question.specs.declared.types.Verb.{Verb}
+use Rattle.question.specs.declared.types.Verb.the-variants.{Insert, Delete, Modify}
 use Rattle.sights.specs.Seen.{There, Whole}
 use Rattle.formula.specs.Able.{Able, Chooses, Buildable, settledModes}
 use Rattle.formula.proofs.Numbered.{change-is}
 use Rattle.sights.proofs.Shapes.{columns-length, condition-is}
-use Rattle.formulae.proofs.Usable.{Exists, ChangeUsable, usable}
+use Rattle.page_formulas.proofs.Usable.{Exists, ChangeUsable, usable}
 
 module _ (q : Question) (h : Held q) (a : length (q .columns) ≡ 8) (b : length (q .condition .tokens) ≡ 16) (c : length (q .change .rows) ≡ 4) (d : length (q .change .condition .tokens) ≡ 16) (e : length (q .change .settings) ≡ 8) (ok : Accepted (questionOf q)) where
   whole : Whole q

@@ -7,23 +7,23 @@ use native.Mathlib.Numerals.{add-one}
 use native.Mathlib.Omega.{arith}
 use lib.ListN.{length, getD, take, drop, length-map, List·getD-map, drop-of-length-le}
 use lib.Seq.{getD-take}
-use Rattle.meaning.specs.Condition.{unequal}
-use Rattle.meaning.specs.Contents.{Range, Mode}
-use Rattle.meaning.specs.Trouble.{modeAt, kept}
-use Rattle.questions.specs.Layout.{visibleFrom, questionFrom}
-use Rattle.questions.specs.Layout as L
-use Rattle.asked.specs.Held.{columnOf, questionOf}
-use Rattle.asked.specs.Held as H
-use Rattle.asked.specs.declared.types.Question.{Question}
-use Rattle.formulae.specs.Program.{orI}
-use Rattle.formulae.specs.Compile.{comparison}
-use Rattle.formulae.specs.Compile as C
-use Rattle.formulae.specs.Formulas.{differsNew, differsOver}
-use Rattle.programs.specs.Built.{Room, Builds}
+use Rattle.page_meaning.specs.Condition.{unequal}
+use Rattle.page_meaning.specs.Contents.{Range, Mode}
+use Rattle.page_meaning.specs.Trouble.{modeAt, kept}
+use Rattle.page_questions.specs.Layout.{visibleFrom, questionFrom}
+use Rattle.page_questions.specs.Layout as L
+use Rattle.question.specs.Held.{columnOf, questionOf}
+use Rattle.question.specs.Held as H
+use Rattle.question.specs.declared.types.Question.{Question}
+use Rattle.page_formulas.specs.Program.{orI}
+use Rattle.page_formulas.specs.Compile.{comparison}
+use Rattle.page_formulas.specs.Compile as C
+use Rattle.page_formulas.specs.Formulas.{differsNew, differsOver}
+use Rattle.program.specs.Built.{Room, Builds}
 use Rattle.sights.specs.Seen.{noColumn, modesOf, modeIn, sightOf, There, Whole}
 use Rattle.sights.specs.Partway.{Partway, differsAt}
-use Rattle.programs.specs.declared.types.Program.{Program}
-use Rattle.programs.specs.declared.types.Sight.{Sight}
+use Rattle.program.specs.declared.types.Program.{Program}
+use Rattle.program.specs.declared.types.Sight.{Sight}
 use Rattle.sights.proofs.Shapes.{ranges-length}
 use Rattle.sights.proofs.Stepwise.{begin, next, piece-room, piece, finish}
 

@@ -4,19 +4,19 @@ use mathlib.Core.List.{[]}
 use Prim.Native.Nat.{ℕ, _+_}
 use native.Mathlib.Omega.{arith}
 use lib.Dec.{T, leb, leb→le}
-use Rattle.asked.specs.Held.{questionOf}
-use Rattle.asked.specs.declared.types.Question.{Question}
-use Rattle.formulae.specs.Program as P
-use Rattle.formulae.specs.Parts.{conditionProgram}
-use Rattle.formulae.specs.Formulas as F
-use Rattle.programs.specs.Built.{Room, Builds, Means}
+use Rattle.question.specs.Held.{questionOf}
+use Rattle.question.specs.declared.types.Question.{Question}
+use Rattle.page_formulas.specs.Program as P
+use Rattle.page_formulas.specs.Parts.{conditionProgram}
+use Rattle.page_formulas.specs.Formulas as F
+use Rattle.program.specs.Built.{Room, Builds, Means}
 use Rattle.sights.specs.Seen.{rowSight, modesOf, sightOf}
-use Rattle.sights.specs.Spans.{Compiled}
+use Rattle.program.specs.Compiled.{Compiled}
 use Rattle.formula.specs.Able.{deed}
-use Rattle.programs.specs.declared.types.Program.{Program}
-use Rattle.programs.specs.declared.types.Formula.{Formula}
-use Rattle.programs.specs.declared.types.Sight.{Sight}
-use Rattle.programs.proofs.Emits.{emits-means}
+use Rattle.program.specs.declared.types.Program.{Program}
+use Rattle.program.specs.declared.types.Formula.{Formula}
+use Rattle.program.specs.declared.types.Sight.{Sight}
+use Rattle.program.proofs.Emits.{emits-means}
 
 -- ---- room: all of it at first, then less by what each part takes
 

@@ -2,27 +2,27 @@
 use Prim.Native.Nat.{ℕ}
 use mathlib.Core.Path.{_≡_}
 use mathlib.Core.Bool.{Bool, true, false, cond}
-use mathlib.Core.List.{List, [], map}
+use mathlib.Core.List.{List, map}
 use lib.ListN.{length, getD, take}
 use lib.IntN.{ℤ}
 use lib.Dec.{eqb}
-use Rattle.meaning.specs.Limits.{mostTables, mostColumns, mostRows}
-use Rattle.meaning.specs.Condition as M
-use Rattle.meaning.specs.Contents.{Mode, become}
-use Rattle.meaning.specs.Contents as M'
-use Rattle.meaning.specs.WellFormed.{Reads}
-use Rattle.asked.specs.Held.{conditionOf, settingOf}
-use Rattle.asked.specs.Held as H
-use Rattle.asked.specs.declared.types.Question.{Question}
-use Rattle.asked.specs.declared.types.Setting.{Setting}
-use Rattle.asked.specs.declared.types.Row.{Row}
-use Rattle.asked.specs.declared.types.Verb.{Verb}
-use Rattle.asked.specs.declared.types.Verb.the-variants.{Insert, Delete, Modify}
-use Rattle.formulae.specs.Formulas as F
-use Rattle.formulae.specs.Formulas.{noFormula}
+use Rattle.page_meaning.specs.Limits.{mostTables, mostColumns, mostRows}
+use Rattle.page_meaning.specs.Condition as M
+use Rattle.page_meaning.specs.Contents.{Mode, become}
+use Rattle.page_meaning.specs.Contents as M'
+use Rattle.page_meaning.specs.WellFormed.{Reads}
+use Rattle.question.specs.Held.{conditionOf, settingOf}
+use Rattle.question.specs.Held as H
+use Rattle.question.specs.declared.types.Question.{Question}
+use Rattle.question.specs.declared.types.Setting.{Setting}
+use Rattle.question.specs.declared.types.Row.{Row}
+use Rattle.question.specs.declared.types.Verb.{Verb}
+use Rattle.question.specs.declared.types.Verb.the-variants.{Insert, Delete, Modify}
+use Rattle.page_formulas.specs.Formulas as F
+use Rattle.page_formulas.specs.Formulas.{noFormula}
 use Rattle.sights.specs.Seen.{There, Whole, Usable, modesOf}
 use Rattle.sights.specs.Partway.{Ready}
-use Rattle.programs.specs.declared.types.Sight.{Sight}
+use Rattle.program.specs.declared.types.Sight.{Sight}
 
 -- the modify's modes
 abbrev pub settledModes : Question → List Mode

@@ -8,17 +8,17 @@ use crate::troubles::one_removed;
 use crate::troubles::one_stays;
 use crate::troubles::removed;
 use crate::troubles::shows;
-use asked::types::Question;
-use asked::types::Verb;
-use programs::types::Formula;
+use program::types::Formula;
+use question::types::Question;
+use question::types::Verb;
 ghost use mathlib.Core.Path.{_≡_};
 ghost use Prim.Native.Nat.{_<_};
 ghost use lib.ListN.{length};
-ghost use Rattle.meaning.specs.Contents.{delete, modify};
-ghost use Rattle.asked.specs.Held.{questionOf, Held};
-ghost use Rattle.questions.specs.Accepted.{Accepted};
-ghost use Rattle.formulae.specs.Formulas.{formulas};
-ghost use Rattle.sights.specs.Spans.{Compiled};
+ghost use Rattle.page_meaning.specs.Contents.{delete, modify};
+ghost use Rattle.question.specs.Held.{questionOf, Held};
+ghost use Rattle.page_questions.specs.Accepted.{Accepted};
+ghost use Rattle.page_formulas.specs.Formulas.{formulas};
+ghost use Rattle.program.specs.Compiled.{Compiled};
 ghost use Rattle.formula.specs.Able.{Able, Widths, Chooses, Modifies, Buildable, deed, settledModes, formulaAt, askedOf};
 
 pub fn deleted(q: Question, asked: u8) -> Formula

@@ -1,19 +1,19 @@
 // "Insert: for each row, C with that row's values put in."
 use crate::listing::relisted;
 use crate::listing::single;
-use asked::types::Mode;
-use asked::types::Question;
-use asked::types::Row;
-use asked::types::Setting;
-use programs::build::blank;
-use programs::types::Formula;
-use programs::types::Sight;
+use program::build::blank;
+use program::types::Formula;
+use program::types::Sight;
+use question::types::Mode;
+use question::types::Question;
+use question::types::Row;
+use question::types::Setting;
 ghost use mathlib.Core.List.{map};
 ghost use Prim.Native.Nat.{_<_};
 ghost use lib.ListN.{take};
-ghost use Rattle.asked.specs.Held.{rowOf, questionOf};
-ghost use Rattle.formulae.specs.Formulas as trouble;
-ghost use Rattle.sights.specs.Spans.{Compiled};
+ghost use Rattle.question.specs.Held.{rowOf, questionOf};
+ghost use Rattle.page_formulas.specs.Formulas as trouble;
+ghost use Rattle.program.specs.Compiled.{Compiled};
 ghost use Rattle.formula.specs.Able.{Able, Becomes, PutIn, formulaAt};
 
 // Each column becomes the row's value.

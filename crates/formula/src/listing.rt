@@ -1,11 +1,11 @@
 // What the formulas of a question have in common: its rows, its list's condition on them, its change.
-use asked::types::Condition;
-use asked::types::Question;
-use programs::build::emit;
-use programs::types::Formula;
-use programs::types::Joint;
-use programs::types::Program;
-use programs::types::Sight;
+use program::build::emit;
+use program::types::Formula;
+use program::types::Joint;
+use program::types::Program;
+use program::types::Sight;
+use question::types::Condition;
+use question::types::Question;
 use sights::joining::condition;
 use sights::joining::moves;
 use sights::joining::settled;
@@ -15,16 +15,16 @@ use sights::spanning::two_rows;
 ghost use mathlib.Core.Path.{_≡_};
 ghost use mathlib.Core.Bool.{true, false};
 ghost use mathlib.Core.List.{[], _∷_, _++_};
-ghost use Rattle.asked.specs.Held.{conditionOf, questionOf};
-ghost use Rattle.formulae.specs.Program.{andI};
-ghost use Rattle.formulae.specs.Program as written;
-ghost use Rattle.formulae.specs.Parts.{_and_, conditionProgram};
-ghost use Rattle.formulae.specs.Formulas.{C, after, oneRow, twoRows};
-ghost use Rattle.formulae.specs.Formulas as trouble;
-ghost use Rattle.programs.specs.Built.{Room, Builds, Means};
+ghost use Rattle.question.specs.Held.{conditionOf, questionOf};
+ghost use Rattle.page_formulas.specs.Program.{andI};
+ghost use Rattle.page_formulas.specs.Program as written;
+ghost use Rattle.page_formulas.specs.Parts.{_and_, conditionProgram};
+ghost use Rattle.page_formulas.specs.Formulas.{C, after, oneRow, twoRows};
+ghost use Rattle.page_formulas.specs.Formulas as trouble;
+ghost use Rattle.program.specs.Built.{Room, Builds, Means};
 ghost use Rattle.sights.specs.Seen.{rowSight, modesOf, Whole, Usable};
 ghost use Rattle.sights.specs.Partway.{Ready};
-ghost use Rattle.sights.specs.Spans.{Compiled};
+ghost use Rattle.program.specs.Compiled.{Compiled};
 ghost use Rattle.formula.specs.Able.{Able, Chooses, Modifies, Views, deed};
 
 // A row as it is.

@@ -1,21 +1,21 @@
 // "Some visible column not kept has new ≠ old, joined by or in column order (false if there is none)": of any two sights.
-use asked::types::Op;
-use asked::types::Question;
-use programs::build::compare;
-use programs::build::emit;
-use programs::types::Joint;
-use programs::types::Program;
-use programs::types::Sight;
+use program::build::compare;
+use program::build::emit;
+use program::types::Joint;
+use program::types::Program;
+use program::types::Sight;
+use question::types::Op;
+use question::types::Question;
 use sights::joining::kept;
 use sights::seeing::mode_at;
 use sights::seeing::term_at;
 ghost use mathlib.Core.Path.{_≡_};
 ghost use mathlib.Core.Bool.{true};
-ghost use Rattle.meaning.specs.Trouble.{modeAt};
-ghost use Rattle.asked.specs.Held.{questionOf};
-ghost use Rattle.formulae.specs.Formulas.{differsOver};
-ghost use Rattle.formulae.specs.Formulas as trouble;
-ghost use Rattle.programs.specs.Built.{Room, Builds};
+ghost use Rattle.page_meaning.specs.Trouble.{modeAt};
+ghost use Rattle.question.specs.Held.{questionOf};
+ghost use Rattle.page_formulas.specs.Formulas.{differsOver};
+ghost use Rattle.page_formulas.specs.Formulas as trouble;
+ghost use Rattle.program.specs.Built.{Room, Builds};
 ghost use Rattle.sights.specs.Seen.{sightOf, modesOf, There, Usable};
 ghost use Rattle.sights.specs.Partway.{differsAt};
 

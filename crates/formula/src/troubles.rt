@@ -12,15 +12,15 @@ use crate::listing::single;
 use crate::listing::staying;
 use crate::listing::unmoved;
 use crate::telling::differs;
-use asked::types::Question;
-use programs::build::blank;
-use programs::build::emit;
-use programs::types::Formula;
-use programs::types::Joint;
-ghost use Rattle.meaning.specs.Contents.{delete, modify};
-ghost use Rattle.asked.specs.Held.{questionOf};
-ghost use Rattle.formulae.specs.Formulas.{irrelevance, computability, entering};
-ghost use Rattle.sights.specs.Spans.{Compiled};
+use program::build::blank;
+use program::build::emit;
+use program::types::Formula;
+use program::types::Joint;
+use question::types::Question;
+ghost use Rattle.page_meaning.specs.Contents.{delete, modify};
+ghost use Rattle.question.specs.Held.{questionOf};
+ghost use Rattle.page_formulas.specs.Formulas.{irrelevance, computability, entering};
+ghost use Rattle.program.specs.Compiled.{Compiled};
 ghost use Rattle.formula.specs.Able.{Chooses, Modifies, deed, settledModes, formulaAt};
 
 // "C and D"

@@ -2,11 +2,11 @@
 ghost use mathlib.Core.Path.{_≡_};
 ghost use Prim.Native.Nat.{_-_, _<_, _≤_};
 ghost use lib.ListN.{length};
-ghost use Rattle.walks.specs.Walk.{Below, closed};
-ghost use Rattle.ints.proofs.Bridge.{minZ};
-ghost use Rattle.meaning.specs.Limits.{mostVertices};
-ghost use Rattle.walks.specs.Grid.{blank, weight, tighten, farN, Sized, AllWithin};
-ghost use Rattle.walks.specs.Search.{least, first};
+ghost use Rattle.page_walks.specs.Walk.{Below, closed};
+ghost use Rattle.page_numbers.specs.Numbers.{minZ};
+ghost use Rattle.page_meaning.specs.Limits.{mostVertices};
+ghost use Rattle.page_walks.specs.Grid.{blank, weight, tighten, farN, Sized, AllWithin};
+ghost use Rattle.page_walks.specs.Search.{least, first};
 
 // Vertex numbers are below it.
 pub const VERTICES: usize = 17;

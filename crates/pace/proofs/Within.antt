@@ -2,8 +2,8 @@
 use Prim.Native.Nat.{ℕ, _≤_}
 use native.Mathlib.Omega.{arith}
 use lib.IntN.{ℤ}
-use Rattle.walks.specs.Grid.{Grid, farN, Bounded, AllWithin, blank, tighten}
-use Rattle.walks.proofs.Grids.{tighten-keeps, blank-far}
+use Rattle.page_walks.specs.Grid.{Grid, farN, Bounded, AllWithin, blank, tighten}
+use Rattle.page_walks.proofs.Grids.{tighten-keeps, blank-far}
 
 pub blank-within : (N : ℕ) → AllWithin farN N (blank N)
 blank-within N = record { entry = λ u v hu hv. rw (blank-far N u v) (record { high = omega arith; low = omega arith }) }

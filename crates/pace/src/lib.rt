@@ -1,7 +1,7 @@
 // The search and the closure's update over and over, for a benchmark to time from outside. Nothing else uses them.
 ghost use Prim.Native.Nat.{_<_, _≤_};
-ghost use Rattle.meaning.specs.Limits.{mostVertices};
-ghost use Rattle.walks.specs.Grid.{farN, Bounded, Sized, AllWithin};
+ghost use Rattle.page_meaning.specs.Limits.{mostVertices};
+ghost use Rattle.page_walks.specs.Grid.{farN, Bounded, Sized, AllWithin};
 
 // A way through all vertices, each edge of weight 1.
 fn line(n: usize) -> [[i64; 17]; 17]
@@ -47,7 +47,7 @@ pub extern "C" fn pace_search(n: usize, rounds: u32) -> u64 {
     let mut i: u32 = 0;
     while i < rounds {
         let h = grid::tighten(g, count - 1, 0, turning(i));
-        let c = cycling::search(&h, count);
+        let c = cycles::search(&h, count);
         edges = edges + c.count as u64;
         i += 1;
     }
@@ -70,7 +70,7 @@ pub extern "C" fn pace_update(n: usize, rounds: u32) -> u64 {
     let mut times: u64 = 0;
     let mut i: u32 = 0;
     while i < rounds {
-        let h = nearing::relax(g, count, count - 1, 0, turning(i));
+        let h = closure::relax(g, count, count - 1, 0, turning(i));
         times = times + below(h, count - 2, 1);
         i += 1;
     }

@@ -2,7 +2,7 @@
 use crate::line_end;
 use crate::numbers;
 use crate::text;
-use sheet::types::Verdict;
+use outcome::Verdict;
 
 // 1 asks whether the change is irrelevant, 2 whether it is computable.
 pub fn asked(number: u8) {

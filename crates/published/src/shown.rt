@@ -1,5 +1,5 @@
 // A question's two verdicts beside the report's.
-use answers::types::Judged;
+use outcome::Judged;
 use printing::line_end;
 use printing::text;
 use printing::words;

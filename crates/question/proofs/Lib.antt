@@ -1,2 +1,2 @@
-pub mod Chain
-pub mod Promises
+pub mod RowRun
+pub mod Answers

@@ -1,5 +1,5 @@
 // A string with a byte or a number changed, and the answer to its first bytes.
-use asked::types::Answer;
+use question::types::Answer;
 
 pub fn with_byte(b: [u8; 112], at: usize, x: u8) -> [u8; 112] {
     let mut c = b;
@@ -24,7 +24,7 @@ fn print(number: u8, place: usize) {
 
 // The answer to some bytes.
 fn answer(s: &[u8]) {
-    let r = question::read(s);
+    let r = reader::read(s);
     let a = r.answer;
     match a {
         Answer::Good => {

@@ -7,19 +7,19 @@ use native.Mathlib.Omega.{arith}
 use lib.ListN.{length, getD, drop, length-map, drop-of-length-le}
 use lib.Seq.{getD-take, getD-drop, length-take-le}
 use lib.Dec.{T}
-use Rattle.meaning.specs.Contents.{Range, Mode, keep, become, shift}
-use Rattle.meaning.specs.Trouble.{kept}
-use Rattle.asked.specs.Held.{columnOf, rangesOf, questionOf}
-use Rattle.asked.specs.declared.types.Question.{Question}
-use Rattle.formulae.specs.Program as P
-use Rattle.formulae.specs.Compile as C
-use Rattle.formulae.specs.Formulas.{newTerm, bounded, boundedNew, boundedAll}
-use Rattle.programs.specs.Built.{Room, Builds}
+use Rattle.page_meaning.specs.Contents.{Range, Mode, keep, become, shift}
+use Rattle.page_meaning.specs.Trouble.{kept}
+use Rattle.question.specs.Held.{columnOf, rangesOf, questionOf}
+use Rattle.question.specs.declared.types.Question.{Question}
+use Rattle.page_formulas.specs.Program as P
+use Rattle.page_formulas.specs.Compile as C
+use Rattle.page_formulas.specs.Formulas.{newTerm, bounded, boundedNew, boundedAll}
+use Rattle.program.specs.Built.{Room, Builds}
 use Rattle.sights.specs.Seen.{noColumn, rowSight, modesOf, modeIn, sightOf, Usable}
 use Rattle.sights.specs.Partway.{Partway, noRange, boundedAt}
-use Rattle.programs.specs.declared.types.Program.{Program}
-use Rattle.programs.specs.declared.types.Sight.{Sight}
-use Rattle.programs.proofs.Emits.{emits-none}
+use Rattle.program.specs.declared.types.Program.{Program}
+use Rattle.program.specs.declared.types.Sight.{Sight}
+use Rattle.program.proofs.Emits.{emits-none}
 use Rattle.sights.proofs.Shapes.{changed-is, changed-length, range-at}
 use Rattle.sights.proofs.Sightings.{mode-from}
 use Rattle.sights.proofs.Stepwise.{begin, next, piece-room, piece, finish}

@@ -7,14 +7,14 @@ use native.Mathlib.Omega.{arith}
 use borrow.Author.Tests.{eq-eqb, ne-eqb}
 use lib.ListN.{length, getD, take, drop, length-map, List·getD-map, length-drop}
 use lib.Seq.{take-add, take-all, drop-drop, getD-take, length-take-le}
-use Rattle.meaning.specs.Contents.{Range, columns, columnsOf, first}
-use Rattle.questions.specs.Layout.{total, firstOf, widthOf, tablesOf, tableOf, visibleFrom, questionFrom}
-use Rattle.questions.specs.Layout as L
-use Rattle.asked.specs.Held.{columnOf, rangesOf, widthsOf, questionOf}
-use Rattle.asked.specs.Held as H
-use Rattle.asked.specs.declared.types.Question.{Question}
-use Rattle.asked.specs.declared.types.Column.{Column}
-use Rattle.formulae.specs.Formulas.{among}
+use Rattle.page_meaning.specs.Contents.{Range, columns, columnsOf, first}
+use Rattle.page_questions.specs.Layout.{total, firstOf, widthOf, tablesOf, tableOf, visibleFrom, questionFrom}
+use Rattle.page_questions.specs.Layout as L
+use Rattle.question.specs.Held.{columnOf, rangesOf, widthsOf, questionOf}
+use Rattle.question.specs.Held as H
+use Rattle.question.specs.declared.types.Question.{Question}
+use Rattle.question.specs.declared.types.Column.{Column}
+use Rattle.page_formulas.specs.Formulas.{among}
 use Rattle.sights.specs.Partway.{noRange}
 use Rattle.sights.specs.Seen.{Whole, noColumn}
 

@@ -10,23 +10,23 @@ use lib.ListN.{getD, take, replicate, length-map, length-take, length-replicate,
 use lib.Seq.{getD-take}
 use mir.Syntax.{w32, w64}
 use mir.Val.{SFits}
-use Rattle.ints.proofs.Bridge.{ints, +law}
-use Rattle.ints.proofs.Machine.{machine}
-use Rattle.meaning.specs.Contents.{Mode, keep, become, shift, columns, first}
-use Rattle.meaning.specs.Contents as M
-use Rattle.meaning.specs.Trouble.{modeAt}
-use Rattle.meaning.specs.WellFormed.{Reads}
-use Rattle.asked.specs.Held.{settingOf, questionOf}
-use Rattle.asked.specs.declared.types.Question.{Question}
-use Rattle.asked.specs.declared.types.Mode.the-variants.{Keep}
-use Rattle.asked.specs.declared.types.Setting.{Setting}
-use Rattle.formulae.specs.Program as P
-use Rattle.formulae.specs.Compile.{constantTerm, plus}
-use Rattle.formulae.specs.Formulas.{vertex, newTerm, after}
-use Rattle.programs.specs.Built.{termOf, Near}
+use Rattle.page_numbers.proofs.Bridge.{ints, +law}
+use Rattle.page_numbers.proofs.Machine.{machine}
+use Rattle.page_meaning.specs.Contents.{Mode, keep, become, shift, columns, first}
+use Rattle.page_meaning.specs.Contents as M
+use Rattle.page_meaning.specs.Trouble.{modeAt}
+use Rattle.page_meaning.specs.WellFormed.{Reads}
+use Rattle.question.specs.Held.{settingOf, questionOf}
+use Rattle.question.specs.declared.types.Question.{Question}
+use Rattle.question.specs.declared.types.Mode.the-variants.{Keep}
+use Rattle.question.specs.declared.types.Setting.{Setting}
+use Rattle.page_formulas.specs.Program as P
+use Rattle.page_formulas.specs.Compile.{constantTerm, plus}
+use Rattle.page_formulas.specs.Formulas.{vertex, newTerm, after}
+use Rattle.program.specs.Built.{termOf, Near}
 use Rattle.sights.specs.Seen.{noColumn, stillOf, rowSight, modesOf, modeIn, sightOf, There, Whole, Usable, Stands, ModeReads}
-use Rattle.programs.specs.declared.types.Sight.{Sight}
-use Rattle.programs.specs.declared.types.Term.{Term}
+use Rattle.program.specs.declared.types.Sight.{Sight}
+use Rattle.program.specs.declared.types.Term.{Term}
 use Rattle.sights.proofs.Shapes.{visible-is, columns-length, first-is}
 
 -- ---- vertices

@@ -7,27 +7,27 @@ use native.Mathlib.Omega.{arith}
 use lib.IntN.{pos}
 use lib.ListN.{length, getD, take, drop, length-map, List·getD-map, drop-of-length-le}
 use lib.Seq.{drop-cons, getD-take, length-take-le}
-use Rattle.meaning.specs.Condition.{Token, compare, both, either, negate}
-use Rattle.meaning.specs.Condition as M
-use Rattle.meaning.specs.WellFormed.{TokenUses, Uses}
-use Rattle.questions.specs.Reader.{counted}
-use Rattle.asked.specs.Held.{tokenOf, conditionOf}
-use Rattle.asked.specs.declared.types.Question.{Question}
-use Rattle.asked.specs.declared.types.Condition.{Condition}
-use Rattle.asked.specs.declared.types.Token as declared
-use Rattle.asked.specs.declared.types.Kind.the-variants.{Compare}
-use Rattle.asked.specs.declared.types.Op.the-variants.{Less}
-use Rattle.asked.specs.declared.types.Side.the-variants.{Constant}
-use Rattle.formulae.specs.Program as P
-use Rattle.formulae.specs.Compile.{token, compile}
-use Rattle.formulae.specs.Compile as C
-use Rattle.formulae.specs.Parts.{conditionProgram}
-use Rattle.programs.specs.Built.{Room, Builds}
+use Rattle.page_meaning.specs.Condition.{Token, compare, both, either, negate}
+use Rattle.page_meaning.specs.Condition as M
+use Rattle.page_meaning.specs.WellFormed.{TokenUses, Uses}
+use Rattle.page_questions.specs.Reader.{counted}
+use Rattle.question.specs.Held.{tokenOf, conditionOf}
+use Rattle.question.specs.declared.types.Question.{Question}
+use Rattle.question.specs.declared.types.Condition.{Condition}
+use Rattle.question.specs.declared.types.Token as declared
+use Rattle.question.specs.declared.types.Kind.the-variants.{Compare}
+use Rattle.question.specs.declared.types.Op.the-variants.{Less}
+use Rattle.question.specs.declared.types.Side.the-variants.{Constant}
+use Rattle.page_formulas.specs.Program as P
+use Rattle.page_formulas.specs.Compile.{token, compile}
+use Rattle.page_formulas.specs.Compile as C
+use Rattle.page_formulas.specs.Parts.{conditionProgram}
+use Rattle.program.specs.Built.{Room, Builds}
 use Rattle.sights.specs.Seen.{sightOf, There}
 use Rattle.sights.specs.Partway.{Partway, cost, pairs, costs, pairsOf, Ready}
-use Rattle.programs.specs.declared.types.Program.{Program}
-use Rattle.programs.specs.declared.types.Sight.{Sight}
-use Rattle.programs.proofs.Emits.{_then_, emits-none}
+use Rattle.program.specs.declared.types.Program.{Program}
+use Rattle.program.specs.declared.types.Sight.{Sight}
+use Rattle.program.proofs.Emits.{_then_, emits-none}
 
 pub begin : (n m a b : ℕ) (p : Program) (all : P.Program) → a ≤ n → b ≤ m → Partway n m p p a b all all
 begin n m a b p all h g = record { done = []; emits = emits-none p; whole = refl; few = omega arith; fewPlaces = omega arith }

@@ -11,16 +11,16 @@ use lib.Dec.{T}
 use lib.IntN.{ℤ, pos}
 use lib.ListN.{length, getD, take, set, replicate, length-append, length-map}
 use lib.Seq.{getD-append-seam, getD-set-same, getD-set-other, take-suc, take-all, length-take-le}
-use Rattle.meaning.specs.Contents.{Range, columns}
-use Rattle.formulae.specs.Vertices.{Ranges, isSome, present}
-use Rattle.asked.specs.Held.{columnOf, questionOf}
-use Rattle.asked.specs.declared.types.Question.{Question}
-use Rattle.formulae.specs.Formulas.{among, firstRanges, hiddenRanges}
+use Rattle.page_meaning.specs.Contents.{Range, columns}
+use Rattle.page_formulas.specs.Vertices.{Ranges, isSome, present}
+use Rattle.question.specs.Held.{columnOf, questionOf}
+use Rattle.question.specs.declared.types.Question.{Question}
+use Rattle.page_formulas.specs.Formulas.{among, firstRanges, hiddenRanges}
 use Rattle.sights.specs.Seen.{noColumn, There, Whole}
 use Rattle.sights.specs.Partway.{noRange}
-use Rattle.sights.specs.Spans.{Spans, rangeIf}
-use Rattle.programs.specs.declared.types.Vertices.{Vertices}
-use Rattle.formulae.proofs.Present.{hidden-length}
+use Rattle.program.specs.Compiled.{Spans, rangeIf}
+use Rattle.program.specs.declared.types.Vertices.{Vertices}
+use Rattle.page_formulas.proofs.Present.{hidden-length}
 use Rattle.sights.proofs.Shapes.{columns-are, columns-length, range-at, visible-is}
 
 same-range : (there : Bool) (g h : Range) → rangeIf there g ≡ some h → g ≡ h

@@ -1,3 +1,2 @@
 pub mod Seen
 pub mod Partway
-pub mod Spans

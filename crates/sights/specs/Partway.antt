@@ -5,22 +5,22 @@ use mathlib.Core.Bool.{cond}
 use mathlib.Core.List.{[], _∷_, _++_}
 use lib.ListN.{length, getD}
 use lib.IntN.{pos}
-use Rattle.meaning.specs.Limits.{mostTokens, mostComparisons}
-use Rattle.meaning.specs.Condition.{Token, compare, both, either, negate}
-use Rattle.meaning.specs.Condition as M
-use Rattle.meaning.specs.Contents.{Range, keep}
-use Rattle.meaning.specs.Trouble.{modeAt}
-use Rattle.meaning.specs.WellFormed.{Uses}
-use Rattle.questions.specs.Reader.{comparisons}
-use Rattle.asked.specs.Held.{conditionOf, questionOf}
-use Rattle.asked.specs.declared.types.Question.{Question}
-use Rattle.asked.specs.declared.types.Condition.{Condition}
-use Rattle.formulae.specs.Program as P
-use Rattle.programs.specs.Built.{Emits}
+use Rattle.page_meaning.specs.Limits.{mostTokens, mostComparisons}
+use Rattle.page_meaning.specs.Condition.{Token, compare, both, either, negate}
+use Rattle.page_meaning.specs.Condition as M
+use Rattle.page_meaning.specs.Contents.{Range, keep}
+use Rattle.page_meaning.specs.Trouble.{modeAt}
+use Rattle.page_meaning.specs.WellFormed.{Uses}
+use Rattle.page_questions.specs.Reader.{comparisons}
+use Rattle.question.specs.Held.{conditionOf, questionOf}
+use Rattle.question.specs.declared.types.Question.{Question}
+use Rattle.question.specs.declared.types.Condition.{Condition}
+use Rattle.page_formulas.specs.Program as P
+use Rattle.program.specs.Built.{Emits}
 use Rattle.sights.specs.Seen.{There, modesOf, rowSight, sightOf, noColumn}
-use Rattle.programs.specs.declared.types.Program.{Program}
-use Rattle.programs.specs.declared.types.Sight.{Sight}
-use Rattle.formulae.specs.Formulas.{boundedNew, differsNew}
+use Rattle.program.specs.declared.types.Program.{Program}
+use Rattle.program.specs.declared.types.Sight.{Sight}
+use Rattle.page_formulas.specs.Formulas.{boundedNew, differsNew}
 
 -- of n instructions and m places, what is left takes a and b at most
 pub record Partway (n m : ℕ) (p now : Program) (a b : ℕ) (left all : P.Program) : Type 0 where

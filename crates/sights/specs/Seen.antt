@@ -6,20 +6,20 @@ use mathlib.Core.List.{List, map}
 use lib.ListN.{length, take}
 use lib.IntN.{pos, negℤ}
 use lib.Signed.{_≤ℤ_}
-use Rattle.meaning.specs.Limits.{mostColumns}
-use Rattle.meaning.specs.Contents.{Mode, keep, become, shift}
-use Rattle.meaning.specs.Contents as M
-use Rattle.meaning.specs.Trouble.{modeAt}
-use Rattle.meaning.specs.WellFormed.{Reads}
-use Rattle.asked.specs.Held.{settingOf, questionOf, Held}
-use Rattle.asked.specs.declared.types.Question.{Question}
-use Rattle.asked.specs.declared.types.Column.{Column}
-use Rattle.formulae.specs.Compile as C
-use Rattle.formulae.specs.Program as P
-use Rattle.formulae.specs.Formulas.{firstSight, secondSight, newTerm}
-use Rattle.programs.specs.Built.{termOf}
-use Rattle.programs.specs.declared.types.Sight.{Sight}
-use Rattle.programs.specs.declared.types.Term.{Term}
+use Rattle.page_meaning.specs.Limits.{mostColumns}
+use Rattle.page_meaning.specs.Contents.{Mode, keep, become, shift}
+use Rattle.page_meaning.specs.Contents as M
+use Rattle.page_meaning.specs.Trouble.{modeAt}
+use Rattle.page_meaning.specs.WellFormed.{Reads}
+use Rattle.question.specs.Held.{settingOf, questionOf, Held}
+use Rattle.question.specs.declared.types.Question.{Question}
+use Rattle.question.specs.declared.types.Column.{Column}
+use Rattle.page_formulas.specs.Compile as C
+use Rattle.page_formulas.specs.Program as P
+use Rattle.page_formulas.specs.Formulas.{firstSight, secondSight, newTerm}
+use Rattle.program.specs.Built.{termOf}
+use Rattle.program.specs.declared.types.Sight.{Sight}
+use Rattle.program.specs.declared.types.Term.{Term}
 
 abbrev pub rowSight : M.Question → Bool → C.Sight
 rowSight q second = cond second (secondSight q) firstSight

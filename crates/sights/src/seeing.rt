@@ -1,17 +1,17 @@
 // Which term stands for a column, on either row and after the change.
-use asked::types::Mode;
-use asked::types::Question;
-use asked::types::Side;
 use ints::weights::sum;
 use ints::weights::wide;
-use programs::types::Sight;
-use programs::types::Term;
+use program::types::Sight;
+use program::types::Term;
+use question::types::Mode;
+use question::types::Question;
+use question::types::Side;
 ghost use mathlib.Core.Path.{_≡_};
 ghost use Prim.Native.Nat.{_<_};
-ghost use Rattle.meaning.specs.WellFormed.{SideUses};
-ghost use Rattle.asked.specs.Held.{modeOf, sideOf, questionOf};
-ghost use Rattle.formulae.specs.Compile.{constantTerm, sideTerm};
-ghost use Rattle.programs.specs.Built.{termOf, Near};
+ghost use Rattle.page_meaning.specs.WellFormed.{SideUses};
+ghost use Rattle.question.specs.Held.{modeOf, sideOf, questionOf};
+ghost use Rattle.page_formulas.specs.Compile.{constantTerm, sideTerm};
+ghost use Rattle.program.specs.Built.{termOf, Near};
 ghost use Rattle.sights.specs.Seen.{rowSight, modeIn, sightOf, There, Whole, Usable, Stands, ModeReads};
 
 // "1+i column i of the first row, 1+n+i column i of the second where column i is hidden, n columns in all"

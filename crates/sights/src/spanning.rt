@@ -1,16 +1,16 @@
 // The vertices of a formula and what they range over.
-use asked::types::Column;
-use asked::types::Question;
 use ints::weights::wide;
-use programs::types::Vertices;
+use program::types::Vertices;
+use question::types::Column;
+use question::types::Question;
 ghost use mathlib.Core.List.{[], _∷_, _++_};
 ghost use Prim.Native.Nat.{_<_};
-ghost use Rattle.asked.specs.Held.{columnOf, questionOf};
-ghost use Rattle.meaning.specs.Contents.{columns};
-ghost use Rattle.formulae.specs.Vertices.{Ranges};
-ghost use Rattle.formulae.specs.Formulas.{firstRanges, hiddenRanges};
+ghost use Rattle.question.specs.Held.{columnOf, questionOf};
+ghost use Rattle.page_meaning.specs.Contents.{columns};
+ghost use Rattle.page_formulas.specs.Vertices.{Ranges};
+ghost use Rattle.page_formulas.specs.Formulas.{firstRanges, hiddenRanges};
 ghost use Rattle.sights.specs.Seen.{Whole};
-ghost use Rattle.sights.specs.Spans.{Spans, rangeIf};
+ghost use Rattle.program.specs.Compiled.{Spans, rangeIf};
 
 // "0 is the constant zero"
 pub fn zero() -> Vertices

@@ -8,11 +8,11 @@ use native.Mathlib.Omega.{arith}
 use lib.Dec.{eqb}
 use lib.ListN.{length, getD, set, length-set}
 use lib.IntN.{ℤ}
-use Rattle.walks.specs.Grid.{Grid, weight, Sized}
-use Rattle.walks.specs.Walk.{Sat}
-use Rattle.formulae.specs.Program.{Values, Place}
-use Rattle.sheets.specs.Facts.{taken}
-use Rattle.sheet.specs.Checking.{placeAt}
+use Rattle.page_walks.specs.Grid.{Grid, weight, Sized}
+use Rattle.page_walks.specs.Walk.{Sat}
+use Rattle.page_formulas.specs.Program.{Values, Place}
+use Rattle.page_sheets.specs.Facts.{taken}
+use Rattle.program.specs.Lent.{placeAt}
 use Rattle.tableau.specs.Closed.{Tight, Enters}
 use Rattle.tableau.specs.Nodes.{Made, Describes}
 use Rattle.tableau.specs.Goals.{noGoal, stackOf, Fit, total, Solves, Decides, Laid, Standing, splitting, unlike}

@@ -6,17 +6,16 @@ use mathlib.Core.List.{List, [], _∷_}
 use native.Mathlib.Omega.{arith}
 use native.Mathlib.Decide.{ℕ-discrete}
 use lib.ListN.{length}
-use Rattle.questions.specs.Accepted.{Every, Accepted}
-use Rattle.meaning.specs.Contents.{Question}
-use Rattle.formulae.specs.Formulas.{noFormula}
+use Rattle.page_questions.specs.Accepted.{Every, Accepted}
+use Rattle.page_meaning.specs.Contents.{Question}
+use Rattle.page_formulas.specs.Formulas.{noFormula, Formula, formulas}
 use Rattle.formula.specs.Able.{formulaAt}
-use Rattle.formulae.specs.Formulas.{Formula, formulas}
-use Rattle.formulae.specs.Program.{truth}
-use Rattle.formulae.proofs.Proper.{formulas-proper}
-use Rattle.sheets.specs.Sheet.{lastVertex, sayYes, sayNo, verdictFor, findingOf}
-use Rattle.sheets.specs.Trees.{Finding, allShut, firstOpen, writeTrees}
-use Rattle.sheets.proofs.Findings.{Fails, yes-found, yes-sound, no-found, opens-at, not-all}
-use Rattle.sheets.proofs.Fit.{fit-all}
+use Rattle.page_formulas.specs.Program.{truth}
+use Rattle.page_formulas.proofs.Proper.{formulas-proper}
+use Rattle.page_sheets.specs.Sheet.{lastVertex, sayYes, sayNo, verdictFor, findingOf}
+use Rattle.page_sheets.specs.Trees.{Finding, allShut, firstOpen, writeTrees}
+use Rattle.page_sheets.proofs.Findings.{Fails, yes-found, yes-sound, no-found, opens-at, not-all}
+use Rattle.page_sheets.proofs.Fit.{fit-all}
 use Rattle.tableau.specs.Goals.{Decides, TrueAt}
 
 -- no values: it fails on all of them

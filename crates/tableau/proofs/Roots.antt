@@ -6,16 +6,16 @@ use mathlib.Core.List.{List}
 use native.Mathlib.Omega.{arith}
 use lib.ListN.{length, getD, take}
 use lib.IntN.{ℤ}
-use Rattle.walks.specs.Grid.{Grid, weight}
-use Rattle.walks.specs.Walk.{Sat}
-use Rattle.formulae.specs.Formulas.{Formula}
-use Rattle.formulae.specs.Program.{Values, Program, test, truth, places}
-use Rattle.formulae.proofs.Proper.{Proper}
-use Rattle.sheet.proofs.Standing.{lent-place}
-use Rattle.sheet.specs.Checking.{placeAt}
-use Rattle.writer.specs.Planting.{Coded, Ranging}
-use Rattle.writer.specs.Starting.{Ranged}
-use Rattle.writer.proofs.Plants.{lengths, ranged, place-facts}
+use Rattle.page_walks.specs.Grid.{Grid, weight}
+use Rattle.page_walks.specs.Walk.{Sat}
+use Rattle.page_formulas.specs.Formulas.{Formula}
+use Rattle.page_formulas.specs.Program.{Values, Program, test, truth, places}
+use Rattle.page_formulas.specs.Proper.{Proper}
+use Rattle.program.proofs.Lends.{lent-place}
+use Rattle.program.specs.Lent.{placeAt, Coded}
+use Rattle.program.specs.Compiled.{Ranging, Ranged}
+use Rattle.program.proofs.Ranges.{ranged}
+use Rattle.facts.proofs.Places.{lengths, place-facts}
 use Rattle.tableau.specs.Begun.{spread}
 use Rattle.tableau.specs.Closed.{Tight}
 use Rattle.tableau.specs.Nodes.{says, valueAt, placeOf, whole, Describes, Linked}

@@ -1,16 +1,16 @@
 -- Values where a formula has no vertex don't matter to its truth: they may be 0.
 use Prim.Native.Nat.{ℕ}
 use mathlib.Core.Path.{_≡_, refl, ap, ap₂, _∙_}
-use mathlib.Core.Bool.{Bool, true, false, cond}
+use mathlib.Core.Bool.{Bool, cond}
 use mathlib.Core.List.{List, [], _∷_}
 use lib.Dec.{T}
 use lib.IntN.{pos, _+ℤ_}
 use lib.Signed.{leZ}
-use Rattle.questions.specs.Accepted.{Every}
-use Rattle.formulae.specs.Program.{Values, Place, Program, place, andI, orI, notI, trueI, falseI, test, step, run, top, truth, places}
-use Rattle.formulae.specs.Vertices.{Ranges, present}
-use Rattle.formulae.proofs.Sizes.{SmallPlace}
-use Rattle.sheets.proofs.Fit.{to-true, to-false}
+use Rattle.page_questions.specs.Accepted.{Every}
+use Rattle.page_formulas.specs.Program.{Values, Place, Program, place, andI, orI, notI, trueI, falseI, test, step, run, top, truth, places}
+use Rattle.page_formulas.specs.Vertices.{Ranges, present}
+use Rattle.page_formulas.specs.Proper.{SmallPlace}
+use Rattle.page_sheets.proofs.Fit.{to-true, to-false}
 
 module _ (rs : Ranges) (x : Values) where
   -- 0 where there is no vertex

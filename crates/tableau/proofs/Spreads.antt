@@ -7,24 +7,24 @@ use mathlib.Core.Option.{Option, none, some}
 use mathlib.Core.List.{List, [], _∷_}
 use native.Mathlib.Omega.{arith}
 use native.Mathlib.Decide.{ℕ-discrete}
-use lib.Dec.{T, eqb, eqb→eq, eqb-refl}
+use lib.Dec.{eqb, eqb→eq, eqb-refl}
 use lib.ListN.{length, getD}
 use lib.IntN.{ℤ, pos, _+ℤ_, _-ℤ_}
 use lib.Signed.{_≤ℤ_}
 use mir.Syntax.{w64}
 use mir.Val.{SFits}
-use Rattle.ints.proofs.Bridge.{up, dn, ints, +law}
-use Rattle.ints.proofs.Machine.{machine, diff}
-use Rattle.meaning.specs.Contents.{Range}
-use Rattle.walks.specs.Grid.{Grid, weight}
-use Rattle.walks.specs.Walk.{Sat}
-use Rattle.formulae.specs.Program.{Values}
-use Rattle.formulae.specs.Vertices.{Ranges, Within, InRange, isSome}
-use Rattle.formulae.proofs.Sizes.{billion}
-use Rattle.sheets.proofs.Fit.{to-true, to-false}
-use Rattle.sheet.proofs.Lends.{flagged}
-use Rattle.writer.specs.Planting.{Ranging}
-use Rattle.writer.specs.Starting.{Ranged}
+use Rattle.page_numbers.specs.Numbers.{up, dn}
+use Rattle.page_numbers.proofs.Bridge.{ints, +law}
+use Rattle.page_numbers.proofs.Machine.{machine, diff}
+use Rattle.page_meaning.specs.Contents.{Range}
+use Rattle.page_walks.specs.Grid.{Grid, weight}
+use Rattle.page_walks.specs.Walk.{Sat}
+use Rattle.page_formulas.specs.Program.{Values}
+use Rattle.page_formulas.specs.Vertices.{Ranges, Within, InRange, isSome}
+use Rattle.page_formulas.specs.Proper.{billion}
+use Rattle.page_sheets.proofs.Fit.{to-true, to-false}
+use Rattle.program.proofs.Lends.{flagged}
+use Rattle.program.specs.Compiled.{Ranging, Ranged}
 use Rattle.tableau.specs.Begun.{endOf, spread}
 use Rattle.tableau.specs.Closed.{Tight}
 use Rattle.tableau.proofs.Settles.{settle}

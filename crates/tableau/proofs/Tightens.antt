@@ -12,18 +12,19 @@ use lib.IntN.{ℤ, pos, negsuc, _+ℤ_, negℤ}
 use lib.Signed.{_≤ℤ_, _<ℤ_, leZ, ltZ}
 use mir.Syntax.{w64}
 use mir.Val.{SFits}
-use Rattle.ints.proofs.Bridge.{minZ, min-spec, ints, eq-out, +law, neg-up, neg-dn}
-use Rattle.ints.proofs.Machine.{machine, lt-true, lt-false, le-true, le-false, true-le, false-le}
-use Rattle.walks.specs.Grid.{Grid, Sized, row, filled, weight, tighten, far, farN, AllWithin}
-use Rattle.walks.specs.Near.{Weights, via, relax, Closure}
-use Rattle.walks.specs.Walk.{Sat}
-use Rattle.walks.proofs.Grids.{tighten-le}
-use Rattle.walks.proofs.Nears.{closure-same, relax-closure, tightened, sat-tighten, sat-reached, near-small}
-use Rattle.walks.proofs.Rows.{filled-at, filled-length}
-use Rattle.walks.proofs.Relaxed.{newRow}
-use Rattle.formulae.specs.Program.{Values, Place, test}
-use Rattle.sheets.specs.Facts.{taken}
-use Rattle.writer.specs.Growing.{Fact}
+use Rattle.page_numbers.specs.Numbers.{minZ}
+use Rattle.page_numbers.proofs.Bridge.{min-spec, ints, eq-out, +law, neg-up, neg-dn}
+use Rattle.page_numbers.proofs.Machine.{machine, lt-true, lt-false, le-true, le-false, true-le, false-le}
+use Rattle.page_walks.specs.Grid.{Grid, Sized, row, filled, weight, tighten, far, farN, AllWithin}
+use Rattle.page_walks.specs.Near.{Weights, via, relax, Closure}
+use Rattle.page_walks.specs.Walk.{Sat}
+use Rattle.page_walks.proofs.Grids.{tighten-le}
+use Rattle.page_walks.proofs.Nears.{closure-same, relax-closure, tightened, sat-tighten, sat-reached, near-small}
+use Rattle.page_walks.proofs.Rows.{filled-at, filled-length}
+use Rattle.page_walks.proofs.Relaxed.{newRow}
+use Rattle.page_formulas.specs.Program.{Values, Place, test}
+use Rattle.page_sheets.specs.Facts.{taken}
+use Rattle.grid.specs.Edges.{Fact}
 use Rattle.tableau.specs.Closed.{Tight, Closer, Enters}
 
 -- the closure with a new edge, row by row: those before u are done, the others as they were

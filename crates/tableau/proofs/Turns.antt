@@ -9,12 +9,12 @@ use lib.ListN.{length, getD, set}
 use lib.Seq.{getD-set-same, getD-set-other}
 use lib.Signed.{_<ℤ_}
 use lib.IntN.{ℤ, pos, _+ℤ_}
-use Rattle.ints.proofs.Bridge.{ints, +law}
-use Rattle.walks.specs.Grid.{Grid, weight}
-use Rattle.walks.specs.Walk.{Sat}
-use Rattle.formulae.specs.Program.{Values, Place, test}
-use Rattle.sheets.specs.Facts.{taken}
-use Rattle.sheet.specs.Checking.{placeAt}
+use Rattle.page_numbers.proofs.Bridge.{ints, +law}
+use Rattle.page_walks.specs.Grid.{Grid, weight}
+use Rattle.page_walks.specs.Walk.{Sat}
+use Rattle.page_formulas.specs.Program.{Values, Place, test}
+use Rattle.page_sheets.specs.Facts.{taken}
+use Rattle.program.specs.Lent.{placeAt}
 use Rattle.tableau.specs.Closed.{Closer}
 use Rattle.tableau.specs.Nodes.{says, Made, Describes}
 use Rattle.tableau.specs.Goals.{noGoal, stackOf, Fit, total, Solves, Decides, Laid, splitting, unlike}

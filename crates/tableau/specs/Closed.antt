@@ -6,13 +6,13 @@ use mathlib.Core.List.{List}
 use lib.ListN.{length}
 use lib.IntN.{ℤ, pos, _+ℤ_}
 use lib.Signed.{_≤ℤ_, _<ℤ_}
-use Rattle.meaning.specs.Limits.{mostVertices}
-use Rattle.walks.specs.Grid.{Grid, weight, Sized, far}
-use Rattle.walks.specs.Walk.{Sat}
-use Rattle.formulae.specs.Program.{Values}
-use Rattle.sheets.specs.Facts.{taken}
-use Rattle.sheet.specs.Checking.{placeAt}
-use Rattle.writer.specs.Growing.{Fact}
+use Rattle.page_meaning.specs.Limits.{mostVertices}
+use Rattle.page_walks.specs.Grid.{Grid, weight, Sized, far}
+use Rattle.page_walks.specs.Walk.{Sat}
+use Rattle.page_formulas.specs.Program.{Values}
+use Rattle.page_sheets.specs.Facts.{taken}
+use Rattle.program.specs.Lent.{placeAt}
+use Rattle.grid.specs.Edges.{Fact}
 
 -- least sums between the vertices below n: 0 from each to itself, no way round is less, none is above a missing edge's weight
 pub record Tight (n : ℕ) (near : Grid) : Type 0 where

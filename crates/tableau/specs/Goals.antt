@@ -5,11 +5,11 @@ use mathlib.Core.Bool.{Bool, true, false, not}
 use mathlib.Core.List.{List, [], _∷_}
 use lib.ListN.{length, getD}
 use lib.IntN.{ℤ, pos}
-use Rattle.walks.specs.Grid.{Grid, weight}
-use Rattle.walks.specs.Walk.{Sat}
-use Rattle.formulae.specs.Program.{Values, truth}
-use Rattle.formulae.specs.Vertices.{InRange}
-use Rattle.formulae.specs.Formulas.{Formula}
+use Rattle.page_walks.specs.Grid.{Grid, weight}
+use Rattle.page_walks.specs.Walk.{Sat}
+use Rattle.page_formulas.specs.Program.{Values, truth}
+use Rattle.page_formulas.specs.Vertices.{InRange}
+use Rattle.page_formulas.specs.Formulas.{Formula}
 use Rattle.tableau.specs.Closed.{Tight, Placed}
 use Rattle.tableau.specs.Nodes.{Shaped}
 use Rattle.tableau.specs.declared.types.Goal.{Goal}

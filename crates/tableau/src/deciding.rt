@@ -3,12 +3,11 @@ use crate::beginning::begin;
 use crate::linking::link;
 use crate::opening::opens;
 use crate::types::Goal;
-use programs::types::Formula;
-ghost use Rattle.formulae.specs.Formulas as written;
-ghost use Rattle.sights.specs.Spans.{Compiled};
-ghost use Rattle.formulae.proofs.Proper.{Proper};
-ghost use Rattle.sheet.specs.Checking.{Fine};
-ghost use Rattle.writer.specs.Planting.{Coded, Ranging, Plantable};
+use program::types::Formula;
+ghost use Rattle.page_formulas.specs.Formulas as written;
+ghost use Rattle.program.specs.Compiled.{Compiled, Fine, Ranging, Plantable};
+ghost use Rattle.page_formulas.specs.Proper.{Proper};
+ghost use Rattle.program.specs.Lent.{Coded};
 ghost use Rattle.tableau.specs.Goals.{Decides, TrueAt};
 
 // Of a compiled formula's parts: the whole program is wanted true, under the ranges' facts.

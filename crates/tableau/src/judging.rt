@@ -1,14 +1,14 @@
 // The verdict for a question that was read: no where a formula is true at some values in range.
 use crate::deciding::formula_opens;
-use asked::types::Question;
 use formula::formulas::formula;
 use formula::formulas::formula_count;
-use sheet::types::Verdict;
+use outcome::Verdict;
+use question::types::Question;
 ghost use mathlib.Core.Path.{_≡_};
-ghost use Rattle.asked.specs.Held.{Held, questionOf};
-ghost use Rattle.questions.specs.Accepted.{Accepted};
-ghost use Rattle.sheet.specs.Answered.{verdictOf};
-ghost use Rattle.sheets.specs.Sheet.{verdictFor, findingOf};
+ghost use Rattle.question.specs.Held.{Held, questionOf};
+ghost use Rattle.page_questions.specs.Accepted.{Accepted};
+ghost use Rattle.outcome.specs.Told.{verdictOf};
+ghost use Rattle.page_sheets.specs.Sheet.{verdictFor, findingOf};
 
 // It is that of the sheet, whose trees or values are not looked for.
 pub fn judge(q: Question, asked: u8) -> Verdict

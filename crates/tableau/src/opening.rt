@@ -5,8 +5,8 @@ ghost use Prim.Native.Nat.{ℕ};
 ghost use mathlib.Core.Bool.{Bool};
 ghost use mathlib.Core.Path.{_≡_};
 ghost use lib.ListN.{length};
-ghost use Rattle.formulae.specs.Program.{Values};
-ghost use Rattle.sheet.specs.Checking.{placeAt};
+ghost use Rattle.page_formulas.specs.Program.{Values};
+ghost use Rattle.program.specs.Lent.{placeAt};
 ghost use Rattle.tableau.specs.Nodes.{Describes};
 ghost use Rattle.tableau.specs.Goals.{Laid, Standing, Decides, Solves, stackOf, splitting, unlike};
 

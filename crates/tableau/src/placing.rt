@@ -1,13 +1,13 @@
 // A place that is wanted true, or false: one fact more, put into the closure of those before it.
+use closure::relax_row;
 use ints::weights::negation;
-use nearing::relax_row;
 ghost use Prim.Native.Nat.{suc, _<_};
 ghost use lib.ListN.{length};
-ghost use Rattle.meaning.specs.Limits.{mostVertices};
-ghost use Rattle.walks.specs.Grid.{Sized};
-ghost use Rattle.sheet.specs.Checking.{placeAt};
-ghost use Rattle.sheets.specs.Facts.{taken};
-ghost use Rattle.writer.specs.Growing.{Fact};
+ghost use Rattle.page_meaning.specs.Limits.{mostVertices};
+ghost use Rattle.page_walks.specs.Grid.{Sized};
+ghost use Rattle.program.specs.Lent.{placeAt};
+ghost use Rattle.page_sheets.specs.Facts.{taken};
+ghost use Rattle.grid.specs.Edges.{Fact};
 ghost use Rattle.tableau.specs.Closed.{Tight, Enters, Placed};
 
 // Does an edge of weight k contradict the facts? If not, it is one of them now; a row that it doesn't lower at its end stays.

@@ -1,19 +1,18 @@
 -- Sums of widths, and the loop that reads them.
 use mathlib.Core.Path.{_≡_, sym, ap, _∙_}
-use mathlib.Core.List.{List, [], _∷_, _++_, map, map-id}
-use Prim.Native.Nat.{ℕ, zero, suc, _+_, _-_, _≤_, _<_}
+use mathlib.Core.List.{List, [], map, map-id}
+use Prim.Native.Nat.{ℕ, suc, _+_, _-_, _≤_, _<_}
 use native.Mathlib.Omega.{arith}
-use native.Mathlib.Numerals.{add-one}
 use lib.ListN.{length, take, getD, set}
-use lib.Seq.{take-suc, take-suc-set, getD-set-same, getD-set-other}
+use lib.Seq.{getD-set-same, getD-set-other}
 use borrow.Author.Count.{below-more}
-use Rattle.meaning.specs.Limits.{mostTables, mostColumns}
-use Rattle.questions.specs.Layout.{total}
-use Rattle.questions.specs.Reader.{found, many, byte, widthAt}
+use Rattle.page_meaning.specs.Limits.{mostTables, mostColumns}
+use Rattle.page_questions.specs.Layout.{total}
+use Rattle.page_questions.specs.Reader.{found, many, byte, widthAt}
 use Rattle.tables.specs.Shapes.{Counted}
-use Rattle.questions.proofs.Sums.{total-set}
-use Rattle.questions.proofs.Loops.{Going, going-on}
-use Rattle.questions.proofs.FieldLaws.{is-within}
+use Rattle.page_questions.proofs.Sums.{total-set}
+use Rattle.page_questions.proofs.Loops.{Going, going-on}
+use Rattle.page_questions.proofs.FieldLaws.{is-within}
 
 -- i widths were read, of n
 pub record WidthRun (s : List ℕ) (n p : ℕ) (widths : List ℕ) (sum next i : ℕ) : Type 0 where

@@ -6,11 +6,11 @@ use Prim.Native.Nat.{ℕ, zero, suc, _≤_, _<_}
 use native.Mathlib.Omega.{arith}
 use lib.ListN.{length, take, getD, length-map, List·getD-map}
 use lib.Seq.{length-take-le, getD-take}
-use Rattle.questions.specs.Layout.{Column, visibleFrom}
-use Rattle.asked.specs.Held.{columnOf}
+use Rattle.page_questions.specs.Layout.{Column, visibleFrom}
+use Rattle.question.specs.Held.{columnOf}
 use Rattle.tables.specs.Shapes.{some}
-use Rattle.asked.specs.declared.types.Column as D
-use Rattle.asked.proofs.RowRun.{noColumn}
+use Rattle.question.specs.declared.types.Column as D
+use Rattle.question.proofs.RowRun.{noColumn}
 
 -- by the first column's byte
 visible-cons : (c : Column) (k : ℕ) (cs : List Column) (b : Bool) → c .shown ≡ b → some (visibleFrom (suc k) cs) ≡ true → some (visibleFrom k (c ∷ cs)) ≡ true

@@ -6,11 +6,11 @@ use mathlib.Core.List.{List, [], _∷_}
 use lib.Dec.{eqb}
 use lib.IntN.{ℤ}
 use lib.ListN.{length, take, getD}
-use Rattle.meaning.specs.Limits.{mostTables, mostColumns}
-use Rattle.questions.specs.Layout as L
-use Rattle.questions.specs.Reader.{Outcome, bad, At, found, andThen, byte, int, upTo, farthest}
-use Rattle.asked.specs.Held.{columnOf}
-use Rattle.asked.specs.Parts.{listOf, IfGood}
+use Rattle.page_meaning.specs.Limits.{mostTables, mostColumns}
+use Rattle.page_questions.specs.Layout as L
+use Rattle.page_questions.specs.Reader.{Outcome, bad, At, found, andThen, byte, int, upTo, farthest}
+use Rattle.question.specs.Held.{columnOf}
+use Rattle.question.specs.Parts.{listOf, IfGood}
 use Rattle.tables.specs.declared.columns.Pillar.{Pillar}
 use Rattle.tables.specs.declared.columns.Pillar.the-variants as pillar
 use Rattle.tables.specs.declared.columns.Pillars.{Pillars}

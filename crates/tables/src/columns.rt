@@ -1,20 +1,20 @@
 // Columns: lo, hi, visible.
-ghost use Prim.Native.Nat.{ℕ, _≤_, _<_};
+ghost use Prim.Native.Nat.{_≤_, _<_};
 ghost use mathlib.Core.Path.{_≡_};
 ghost use mathlib.Core.List.{[], map};
 ghost use lib.ListN.{length, take};
-ghost use Rattle.meaning.specs.Limits.{mostColumns};
-ghost use Rattle.questions.specs.Layout.{visibleFrom};
-ghost use Rattle.questions.specs.Reader.{columnAt, many};
-ghost use Rattle.asked.specs.Held.{columnOf};
+ghost use Rattle.page_meaning.specs.Limits.{mostColumns};
+ghost use Rattle.page_questions.specs.Layout.{visibleFrom};
+ghost use Rattle.page_questions.specs.Reader.{columnAt, many};
+ghost use Rattle.question.specs.Held.{columnOf};
 ghost use Rattle.tables.specs.Shapes.{pillarOf, highAt, PillarsRead, some};
-use asked::limits::COLUMNS;
-use asked::types::Answer;
-use asked::types::Column;
 use fields::fields::Byte;
 use fields::fields::Number;
 use fields::fields::byte_at;
 use fields::fields::number_at;
+use question::limits::COLUMNS;
+use question::types::Answer;
+use question::types::Column;
 
 // A column and the offset after it, or a refusal.
 pub enum Pillar {

@@ -2,18 +2,18 @@
 ghost use Prim.Native.Nat.{_≤_, _<_};
 ghost use mathlib.Core.Path.{_≡_};
 ghost use mathlib.Core.List.{[]};
-ghost use lib.ListN.{length, take};
-ghost use Rattle.meaning.specs.Limits.{mostTables};
-ghost use Rattle.questions.specs.Layout as layout;
-ghost use Rattle.questions.specs.Reader.{widthAt, many};
+ghost use lib.ListN.{take};
+ghost use Rattle.page_meaning.specs.Limits.{mostTables};
+ghost use Rattle.page_questions.specs.Layout as layout;
+ghost use Rattle.page_questions.specs.Reader.{widthAt, many};
 ghost use Rattle.tables.specs.Shapes.{WidthsRead, Counted};
-ghost use Rattle.asked.specs.Held.{ShapeHeld, widthsOf};
-use asked::limits::PAST_COLUMNS;
-use asked::limits::TABLES;
-use asked::types::Answer;
-use asked::types::Shape;
+ghost use Rattle.question.specs.Held.{ShapeHeld, widthsOf};
 use fields::fields::Byte;
 use fields::fields::byte_at;
+use question::limits::PAST_COLUMNS;
+use question::limits::TABLES;
+use question::types::Answer;
+use question::types::Shape;
 
 // Widths, their sum and the next offset, or a refusal.
 pub struct Widths {

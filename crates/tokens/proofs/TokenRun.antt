@@ -6,14 +6,14 @@ use Prim.Native.Nat.{ℕ, _+_, _-_, _≤_, _<_}
 use native.Mathlib.Omega.{arith}
 use lib.Dec.{ltb, leb}
 use lib.ListN.{length, take, set, getD}
-use Rattle.meaning.specs.Condition as C
-use Rattle.meaning.specs.Limits.{mostTokens}
-use Rattle.questions.specs.Reader.{Outcome, bad, At, found, andThen, many, byte, tokenAt, comparisons, height, counted, after, finish}
-use Rattle.asked.specs.Held.{tokenOf}
+use Rattle.page_meaning.specs.Condition as C
+use Rattle.page_meaning.specs.Limits.{mostTokens}
+use Rattle.page_questions.specs.Reader.{Outcome, bad, At, found, andThen, many, byte, tokenAt, comparisons, height, counted, after}
+use Rattle.question.specs.Held.{tokenOf}
 use Rattle.tokens.specs.Words.{tokenWith, wordWith}
-use Rattle.asked.specs.declared.types.Token.{Token}
-use Rattle.questions.proofs.Counts.{counted-le, after-le}
-use Rattle.questions.proofs.Loops.{Going, more, going-on}
+use Rattle.question.specs.declared.types.Token.{Token}
+use Rattle.page_questions.proofs.Counts.{counted-le, after-le}
+use Rattle.page_questions.proofs.Loops.{Going, more, going-on}
 
 -- the offset after a byte that was found is the next one
 pub next-byte : {B : Type 0} (s : List ℕ) (n low high p : ℕ) (f : ℕ → ℕ → Outcome B) → andThen (byte s n low high p) f ≡ andThen (byte s n low high p) (λ x q. f x (p + 1))

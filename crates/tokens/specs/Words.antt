@@ -5,18 +5,18 @@ use mathlib.Core.Path.{_≡_}
 use mathlib.Core.List.{List, map}
 use lib.ListN.{length, take}
 use lib.Dec.{ltb, leb, eqb}
-use Rattle.meaning.specs.Condition as C
-use Rattle.questions.specs.Reader.{Outcome, bad, At, found, andThen, byte, upTo, rightAt, constantAt, sideOf, comparisonAt, height}
-use Rattle.meaning.specs.Limits.{mostTokens, mostComparisons}
-use Rattle.asked.specs.Held.{kindOf, tokenOf, conditionOf}
-use Rattle.asked.specs.declared.types.Answer.{Answer}
-use Rattle.asked.specs.declared.types.Answer.the-variants.{Good, Refused}
-use Rattle.asked.specs.declared.types.Condition.{Condition}
+use Rattle.page_meaning.specs.Condition as C
+use Rattle.page_questions.specs.Reader.{Outcome, bad, At, found, andThen, byte, upTo, rightAt, constantAt, sideOf, comparisonAt, height}
+use Rattle.page_meaning.specs.Limits.{mostTokens, mostComparisons}
+use Rattle.question.specs.Held.{kindOf, tokenOf, conditionOf}
+use Rattle.question.specs.declared.types.Answer.{Answer}
+use Rattle.question.specs.declared.types.Answer.the-variants.{Good, Refused}
+use Rattle.question.specs.declared.types.Condition.{Condition}
 use Rattle.tokens.specs.declared.condition.Tokens.{Tokens}
 use Rattle.tokens.specs.declared.condition.Clause.{Clause}
 use Rattle.tokens.specs.declared.token.Word.{Word}
 use Rattle.tokens.specs.declared.token.Word.the-variants as word
-use Rattle.asked.specs.Parts.{listOf, IfGood}
+use Rattle.question.specs.Parts.{listOf, IfGood}
 
 abbrev pub wordOf : Word → Outcome (At C.Token)
 wordOf (word.Is k q) = found (kindOf k) q

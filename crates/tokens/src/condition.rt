@@ -3,24 +3,24 @@ ghost use mathlib.Core.Path.{_≡_};
 ghost use Prim.Native.Nat.{_≤_};
 ghost use mathlib.Core.List.{[], map};
 ghost use lib.ListN.{length, take};
-ghost use Rattle.meaning.specs.Limits.{mostTokens};
-ghost use Rattle.questions.specs.Reader as reader;
-ghost use Rattle.questions.specs.Reader.{conditionAt, tokenAt, many, finish, bad, andThen};
-ghost use Rattle.asked.specs.Held.{tokenOf};
+ghost use Rattle.page_meaning.specs.Limits.{mostTokens};
+ghost use Rattle.page_questions.specs.Reader as reader;
+ghost use Rattle.page_questions.specs.Reader.{conditionAt, tokenAt, many, finish, bad, andThen};
+ghost use Rattle.question.specs.Held.{tokenOf};
 ghost use Rattle.tokens.specs.Words.{TokensRead, ClauseRead};
-ghost use Rattle.asked.specs.Parts.{IfGood, listOf};
+ghost use Rattle.question.specs.Parts.{IfGood, listOf};
 use crate::token::Word;
 use crate::token::compared_after;
 use crate::token::height_after;
 use crate::token::token_at;
-use asked::limits::PAST_TOKENS;
-use asked::limits::TOKENS;
-use asked::types::Answer;
-use asked::types::Condition;
-use asked::types::Kind;
-use asked::types::Token;
 use fields::fields::Byte;
 use fields::fields::byte_at;
+use question::limits::PAST_TOKENS;
+use question::limits::TOKENS;
+use question::types::Answer;
+use question::types::Condition;
+use question::types::Kind;
+use question::types::Token;
 
 // Tokens that were read: where the answer is good, the tokens, how many values stand after them, and the next offset.
 pub struct Tokens {

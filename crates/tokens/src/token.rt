@@ -1,18 +1,18 @@
 // One token of a condition. The columns that it may name are numbered from `low` on and below `high`.
 ghost use mathlib.Core.Path.{_≡_};
-ghost use Prim.Native.Nat.{_-_, _≤_, _<_};
-ghost use Rattle.questions.specs.Reader.{opOf, sideOf, rightAt, comparisonAt, counted, after};
-ghost use Rattle.asked.specs.Held as held;
+ghost use Prim.Native.Nat.{_-_, _<_};
+ghost use Rattle.page_questions.specs.Reader.{opOf, sideOf, rightAt, comparisonAt, counted, after};
+ghost use Rattle.question.specs.Held as held;
 ghost use Rattle.fields.specs.Bytes.{byteOf};
 ghost use Rattle.tokens.specs.Words.{wordOf, sidesAt, needsAt, wordWith, tokenWith};
-use asked::limits::COMPARISONS;
-use asked::types::Kind;
-use asked::types::Op;
-use asked::types::Side;
 use fields::fields::Byte;
 use fields::fields::Number;
 use fields::fields::byte_at;
 use fields::fields::number_at;
+use question::limits::COMPARISONS;
+use question::types::Kind;
+use question::types::Op;
+use question::types::Side;
 
 // A token and the offset after it, or a refusal.
 pub enum Word {

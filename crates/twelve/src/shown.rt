@@ -1,10 +1,10 @@
 // A question's two answers.
-use answers::types::Written;
+use outcome::Verdict;
+use outcome::Written;
 use printing::line_end;
 use printing::numbers;
 use printing::text;
 use printing::words;
-use sheet::types::Verdict;
 
 // The rows of a no sheet: after mark, version, asked, verdict and the formula's number, four bytes a value; one row or two.
 fn rows(sheet: &[u8], columns: u8) {

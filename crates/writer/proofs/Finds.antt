@@ -6,21 +6,20 @@ use mathlib.Core.List.{List, [], _∷_, _++_}
 use native.Mathlib.Numerals.{add-one}
 use lib.ListN.{length, getD}
 use lib.IntN.{pos}
-use Rattle.formulae.specs.Formulas.{Formula}
-use Rattle.formulae.specs.Formulas.{noFormula}
+use Rattle.page_formulas.specs.Formulas.{Formula, noFormula}
 use Rattle.formula.specs.Able.{formulaAt}
-use Rattle.sheets.specs.Grow.{Growth, shut, openAt, growTree}
-use Rattle.sheets.specs.Sheet.{lastVertex}
-use Rattle.sheets.specs.Tree.{Tree, bytesOf}
-use Rattle.sheets.specs.Trees.{writeTrees, bytesAll}
-use Rattle.sheets.proofs.Positions.{ShutBefore, shut-more, found-open, found-shut, bytes-more}
-use Rattle.writer.specs.Growing.{Grows}
+use Rattle.page_sheets.specs.Grow.{Growth, shut, openAt, growTree}
+use Rattle.page_sheets.specs.Sheet.{lastVertex}
+use Rattle.page_sheets.specs.Tree.{Tree, bytesOf}
+use Rattle.page_sheets.specs.Trees.{writeTrees, bytesAll}
+use Rattle.page_sheets.proofs.Positions.{ShutBefore, shut-more, found-open, found-shut, bytes-more}
+use Rattle.writer_trees.specs.Growing.{Grows}
 use Rattle.writer.specs.Finding.{Finds}
-use Rattle.writer.specs.Room.{filling, puts}
-use Rattle.writer.specs.declared.room.Spot.{Spot}
-use Rattle.writer.specs.declared.growing.Grown.{Grown}
+use Rattle.room.specs.Room.{filling, puts}
+use Rattle.room.specs.declared.Spot.{Spot}
+use Rattle.writer_trees.specs.declared.growing.Grown.{Grown}
 use Rattle.writer.specs.declared.finding.Found.{Found}
-use Rattle.writer.proofs.Puts.{puts-append, puts-length}
+use Rattle.room.proofs.Puts.{puts-append, puts-length}
 
 module _ (Fs : List Formula) (old : List ℕ) (s : Spot) where
   -- before formula i

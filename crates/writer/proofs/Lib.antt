@@ -1,8 +1,3 @@
-pub mod Puts
-pub mod Growths
-pub mod Halves
-pub mod Starts
-pub mod Plants
-pub mod ShownRows
-pub mod ShownFormulas
+pub mod Lays
+pub mod Places
 pub mod Finds

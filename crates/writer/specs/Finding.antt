@@ -5,9 +5,9 @@ use mathlib.Core.Bool.{true, false}
 use mathlib.Core.List.{List}
 use lib.ListN.{length, getD}
 use lib.IntN.{pos}
-use Rattle.sheets.specs.Trees.{Finding, allShut, firstOpen, bytesAll}
-use Rattle.writer.specs.Room.{filling, puts}
-use Rattle.writer.specs.declared.room.Spot.{Spot}
+use Rattle.page_sheets.specs.Trees.{Finding, allShut, firstOpen, bytesAll}
+use Rattle.room.specs.Room.{filling, puts}
+use Rattle.room.specs.declared.Spot.{Spot}
 use Rattle.writer.specs.declared.finding.Found.{Found}
 
 -- every tree's bytes; or the first open formula's number, whether it has two rows, and the values at its vertices

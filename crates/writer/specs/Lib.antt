@@ -1,6 +1,2 @@
-pub mod Room
-pub mod Growing
-pub mod Starting
-pub mod Planting
-pub mod Showing
+pub mod Laying
 pub mod Finding

@@ -1,12 +1,12 @@
 // Every formula's tree, one after another; or the first formula that is open.
-use crate::planting::plant_formula;
-use crate::room::Spot;
-use asked::types::Question;
 use formula::formulas::formula;
 use formula::formulas::formula_count;
-ghost use Rattle.asked.specs.Held.{Held, questionOf};
-ghost use Rattle.questions.specs.Accepted.{Accepted};
-ghost use Rattle.sheets.specs.Sheet.{findingOf};
+use question::types::Question;
+use room::Spot;
+use writer_trees::planting::plant_formula;
+ghost use Rattle.question.specs.Held.{Held, questionOf};
+ghost use Rattle.page_questions.specs.Accepted.{Accepted};
+ghost use Rattle.page_sheets.specs.Sheet.{findingOf};
 ghost use Rattle.writer.specs.Finding.{Finds};
 
 // All trees were written up to a spot; or formula `number` is open, with the values at its vertices.

@@ -1,7 +1,4 @@
-// The writer of sheets. Its definitions are those of crate sheet.
-pub mod finding;
-mod growing;
-mod planting;
-pub mod room;
-pub mod showing;
-mod starting;
+// A whole sheet for a question that was read, into a lent room.
+mod finding;
+pub mod finishing;
+mod laying;

@@ -1,6 +1,6 @@
 use borrow.Author.Needs.{needs}
 use denote.Ref.{now}
-use Rattle.sheet.proofs.Asks.{asked-holds}
+use Rattle.asking.proofs.Asks.{asked-holds}
 use Rattle.answers.proofs.Asks.{verdict-good, verdict-refused}
 use Rattle.answers.proofs.verdict.Statement.{statement}
 use Rattle.answers.proofs.verdict.Tie as tie

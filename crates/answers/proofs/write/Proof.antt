@@ -1,6 +1,6 @@
 use borrow.Author.Needs.{needs}
 use denote.Ref.{now}
-use Rattle.sheet.proofs.Asks.{asked-holds}
+use Rattle.asking.proofs.Asks.{asked-holds}
 use Rattle.answers.proofs.Asks.{write-good, write-refused}
 use Rattle.answers.proofs.write.Statement.{statement}
 use Rattle.answers.proofs.write.Tie as tie

@@ -1,6 +1,6 @@
 use mathlib.Core.Path.{sym, ap, _∙_}
 use borrow.Author.Needs.{needs}
-use Rattle.sheet.specs.Answered.{checkedOf}
+use Rattle.outcome.specs.Told.{judgedOf}
 use Rattle.capi.specs.Returned.{leaves, answer}
 use Rattle.capi.proofs.vu_check.Statement.{statement}
 use Rattle.capi.proofs.vu_check.Tie as tie
@@ -18,10 +18,10 @@ enum-known-told-2 : tie.Need-enum-known-told-2
 enum-known-told-2 c = search needs
 
 returns : tie.Need-returns
-returns c = ap (λ b. leaves 0 b 0) (c .byte-of .ensures) ∙ ap (λ t. answer (checkedOf t)) (sym (c .before .before .told .given .1)) ∙ ap answer (c .before .before .before .before .check .ensures)
+returns c = ap (λ b. leaves 0 b 0) (c .byte-of .ensures) ∙ ap (λ t. answer (judgedOf t)) (sym (c .before .before .told .given .1)) ∙ ap answer (c .before .before .before .before .check .ensures)
 
 returns-2 : tie.Need-returns-2
-returns-2 c = ap (λ t. answer (checkedOf t)) (sym (c .before .told2 .given .1)) ∙ ap answer (c .before .before .before .check .ensures)
+returns-2 c = ap (λ t. answer (judgedOf t)) (sym (c .before .told2 .given .1)) ∙ ap answer (c .before .before .before .check .ensures)
 
 pub vu-check-spec : {M : Type 1} → statement M
 vu-check-spec =

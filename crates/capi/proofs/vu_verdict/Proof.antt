@@ -1,6 +1,6 @@
 use mathlib.Core.Path.{sym, ap, _∙_}
 use borrow.Author.Needs.{needs}
-use Rattle.answers.specs.Told.{judgedOf}
+use Rattle.outcome.specs.Told.{judgedOf}
 use Rattle.capi.specs.Returned.{leaves, answer}
 use Rattle.capi.proofs.vu_verdict.Statement.{statement}
 use Rattle.capi.proofs.vu_verdict.Tie as tie

@@ -1,6 +1,6 @@
 use mathlib.Core.Path.{sym, ap, _∙_}
 use borrow.Author.Needs.{needs}
-use Rattle.answers.specs.Told.{doneOf}
+use Rattle.outcome.specs.Told.{doneOf}
 use Rattle.capi.specs.Returned.{leavesRoom, done}
 use Rattle.capi.proofs.vu_write.Statement.{statement}
 use Rattle.capi.proofs.vu_write.Tie as tie

@@ -1,5 +1,5 @@
 use mathlib.Core.Path.{refl}
-use Rattle.walks.specs.Grid.{blank}
+use Rattle.page_walks.specs.Grid.{blank}
 use Rattle.grid.proofs.blank.Statement.{statement}
 use Rattle.grid.proofs.blank.Tie as tie
 use Rattle.grid.proofs.blank.Reads as reads

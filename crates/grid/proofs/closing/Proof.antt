@@ -8,10 +8,10 @@ use lib.ListN.{length, getD}
 use mir.Syntax.{w64}
 use mir.Val.{SFits, toZ, ofZ}
 use mir.Facts.{toZ-ofZ}
-use Rattle.meaning.specs.Limits.{mostVertices}
-use Rattle.walks.specs.Grid.{row, weight}
-use Rattle.walks.proofs.Rows.{read}
-use Rattle.walks.proofs.Round.{below-at, Part, part-first, part-next, part-exact, part-last}
+use Rattle.page_meaning.specs.Limits.{mostVertices}
+use Rattle.page_walks.specs.Grid.{row, weight}
+use Rattle.page_walks.proofs.Rows.{read}
+use Rattle.page_walks.proofs.Round.{below-at, Part, part-first, part-next, part-exact, part-last}
 use Rattle.grid.proofs.closing.Statement.{statement}
 use Rattle.grid.proofs.closing.Tie as tie
 

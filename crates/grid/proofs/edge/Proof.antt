@@ -1,8 +1,8 @@
 use mathlib.Core.Path.{_∙_}
 use denote.Ref.{now}
 use mir.Facts.{toZ-ofZ}
-use Rattle.meaning.specs.Limits.{mostVertices}
-use Rattle.walks.proofs.Rows.{read}
+use Rattle.page_meaning.specs.Limits.{mostVertices}
+use Rattle.page_walks.proofs.Rows.{read}
 use borrow.Author.Needs.{needs}
 use Rattle.grid.proofs.edge.Statement.{statement}
 use Rattle.grid.proofs.edge.Tie as tie

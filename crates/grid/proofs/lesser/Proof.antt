@@ -2,7 +2,7 @@ use mathlib.Core.Path.{_≡_}
 use mathlib.Core.Bool.{true, false}
 use lib.Signed.{ltZ}
 use mir.Facts.{toZ-ofZ}
-use Rattle.ints.proofs.Bridge.{minZ}
+use Rattle.page_numbers.specs.Numbers.{minZ}
 use Rattle.grid.proofs.lesser.Statement.{statement}
 use Rattle.grid.proofs.lesser.Tie as tie
 use Rattle.grid.proofs.lesser.Reads as reads

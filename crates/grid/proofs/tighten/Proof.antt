@@ -4,10 +4,10 @@ use lib.ListN.{getD, set}
 use mir.Syntax.{w64}
 use mir.Val.{SFits}
 use mir.Facts.{toZ-ofZ}
-use Rattle.ints.proofs.Bridge.{minZ}
-use Rattle.meaning.specs.Limits.{mostVertices}
-use Rattle.walks.specs.Grid.{row, tighten}
-use Rattle.walks.proofs.Rows.{read, sized}
+use Rattle.page_numbers.specs.Numbers.{minZ}
+use Rattle.page_meaning.specs.Limits.{mostVertices}
+use Rattle.page_walks.specs.Grid.{row, tighten}
+use Rattle.page_walks.proofs.Rows.{read, sized}
 use borrow.Author.Needs.{needs}
 use Rattle.grid.proofs.tighten.Statement.{statement}
 use Rattle.grid.proofs.tighten.Tie as tie

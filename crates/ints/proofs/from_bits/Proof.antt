@@ -6,7 +6,7 @@ use lib.IntN.{pos, negsuc}
 use mir.Syntax.{w32}
 use mir.Val.{toZ}
 use mir.Facts.{toZ-ofZ}
-use Rattle.ints.proofs.Machine.{machine, diff, low-bits, high-bits}
+use Rattle.page_numbers.proofs.Machine.{machine, diff, low-bits, high-bits}
 use Rattle.ints.proofs.from_bits.Statement.{statement}
 use Rattle.ints.proofs.from_bits.Tie as tie
 

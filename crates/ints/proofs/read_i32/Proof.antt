@@ -3,7 +3,7 @@ use mathlib.Core.Path.{ap, _∙_}
 use mir.Syntax.{w32}
 use mir.Val.{toZ}
 use mir.Facts.{toZ-ofZ}
-use Rattle.ints.specs.Bytes.{int32}
+use Rattle.page_numbers.specs.Bytes.{int32}
 use Rattle.ints.proofs.read_i32.Statement.{statement}
 use Rattle.ints.proofs.read_i32.Tie as tie
 

@@ -7,7 +7,7 @@ use lib.Signed.{ltZ, mag}
 use mir.Syntax.{w32}
 use mir.Val.{toZ, ofZ}
 use mir.Facts.{toZ-ofZ}
-use Rattle.ints.proofs.Machine.{machine, diff}
+use Rattle.page_numbers.proofs.Machine.{machine, diff}
 use Rattle.ints.proofs.to_bits.Statement.{statement}
 use Rattle.ints.proofs.to_bits.Tie as tie
 

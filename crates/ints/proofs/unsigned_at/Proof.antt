@@ -1,5 +1,5 @@
 use borrow.Author.Needs.{needs}
-use Rattle.ints.specs.Bytes.{le32}
+use Rattle.page_numbers.specs.Bytes.{le32}
 use Rattle.ints.proofs.unsigned_at.Statement.{statement}
 use Rattle.ints.proofs.unsigned_at.Tie as tie
 

@@ -8,8 +8,8 @@ use mir.Syntax.{w32}
 use mir.Val.{ofZ}
 use mir.Facts.{toZ-ofZ}
 use lib.ListN.{length-set, take, drop}
-use Rattle.ints.proofs.Stores.{four-stores}
-use Rattle.ints.specs.Bytes.{put32, bytes4}
+use Rattle.page_numbers.proofs.Stores.{four-stores}
+use Rattle.page_numbers.specs.Bytes.{put32, bytes4}
 use Rattle.ints.proofs.write_i32.Statement.{statement}
 use Rattle.ints.proofs.write_i32.Tie as tie
 

@@ -1,5 +1,5 @@
-use Rattle.meaning.specs.Limits.{mostVertices}
-use Rattle.walks.proofs.Rows.{sized}
+use Rattle.page_meaning.specs.Limits.{mostVertices}
+use Rattle.page_walks.proofs.Rows.{sized}
 use borrow.Author.Needs.{needs}
 use Rattle.pace.proofs.below.Statement.{statement}
 use Rattle.pace.proofs.below.Tie as tie

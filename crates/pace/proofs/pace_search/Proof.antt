@@ -1,8 +1,8 @@
 use Prim.Native.Nat.{_*_, _-_, _≤_}
 use borrow.Author.Needs.{needs}
 use mir.Facts.{toZ-ofZ}
-use Rattle.meaning.specs.Limits.{mostVertices}
-use Rattle.walks.proofs.Grids.{tighten-sized}
+use Rattle.page_meaning.specs.Limits.{mostVertices}
+use Rattle.page_walks.proofs.Grids.{tighten-sized}
 use Rattle.pace.proofs.Within.{tighten-within, fewer}
 use Rattle.pace.proofs.pace_search.Statement.{statement}
 use Rattle.pace.proofs.pace_search.Tie as tie

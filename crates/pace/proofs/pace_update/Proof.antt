@@ -1,7 +1,7 @@
 use Prim.Native.Nat.{_-_, _≤_}
 use borrow.Author.Needs.{needs}
 use mir.Facts.{toZ-ofZ}
-use Rattle.meaning.specs.Limits.{mostVertices}
+use Rattle.page_meaning.specs.Limits.{mostVertices}
 use Rattle.pace.proofs.Within.{fewer}
 use Rattle.pace.proofs.pace_update.Statement.{statement}
 use Rattle.pace.proofs.pace_update.Tie as tie

@@ -1,6 +1,6 @@
 use native.Mathlib.Omega.{arith}
 use borrow.Author.Tests.{ne-eqb}
-use Rattle.asked.proofs.RowRun.{ranges-length}
+use Rattle.question.proofs.RowRun.{ranges-length}
 use borrow.Author.Needs.{needs}
 use Rattle.changes.proofs.change.change_at.Statement.{statement}
 use Rattle.changes.proofs.change.change_at.Tie as tie

@@ -1,9 +1,9 @@
 use native.Mathlib.Omega.{arith}
 use mathlib.Core.Path.{refl, sym, ap, _∙_}
-use Rattle.questions.specs.Reader.{deleteAt}
+use Rattle.page_questions.specs.Reader.{deleteAt}
 use Rattle.tokens.specs.Words.{clauseBy}
-use Rattle.asked.specs.declared.types.Answer.{Answer}
-use Rattle.questions.proofs.Steps.{on-good, on-bad}
+use Rattle.question.specs.declared.types.Answer.{Answer}
+use Rattle.page_questions.proofs.Steps.{on-good, on-bad}
 use borrow.Author.Needs.{needs}
 use Rattle.changes.proofs.change.delete_at.Statement.{statement}
 use Rattle.changes.proofs.change.delete_at.Tie as tie

@@ -1,10 +1,10 @@
 use native.Mathlib.Omega.{arith}
 use mathlib.Core.Path.{sym, ap, _∙_}
-use Rattle.meaning.specs.Contents.{insert}
-use Rattle.questions.specs.Reader.{insertAt, andThen, found}
+use Rattle.page_meaning.specs.Contents.{insert}
+use Rattle.page_questions.specs.Reader.{insertAt, andThen, found}
 use Rattle.fields.specs.Bytes.{byteOf}
-use Rattle.questions.proofs.Steps.{on-good, on-bad}
-use Rattle.questions.proofs.FieldLaws.{is-within}
+use Rattle.page_questions.proofs.Steps.{on-good, on-bad}
+use Rattle.page_questions.proofs.FieldLaws.{is-within}
 use borrow.Author.Needs.{needs}
 use Rattle.changes.proofs.change.insert_at.Statement.{statement}
 use Rattle.changes.proofs.change.insert_at.Tie as tie

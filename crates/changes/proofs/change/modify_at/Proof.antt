@@ -1,10 +1,10 @@
 use mathlib.Core.Path.{sym, ap, _∙_}
-use Rattle.meaning.specs.Contents.{modify}
-use Rattle.questions.specs.Reader.{modifyAt, andThen, found}
-use Rattle.asked.specs.Held.{conditionOf}
+use Rattle.page_meaning.specs.Contents.{modify}
+use Rattle.page_questions.specs.Reader.{modifyAt, andThen, found}
+use Rattle.question.specs.Held.{conditionOf}
 use Rattle.tokens.specs.Words.{clauseBy}
-use Rattle.asked.specs.declared.types.Answer.{Answer}
-use Rattle.questions.proofs.Steps.{on-good, on-bad}
+use Rattle.question.specs.declared.types.Answer.{Answer}
+use Rattle.page_questions.proofs.Steps.{on-good, on-bad}
 use borrow.Author.Needs.{needs}
 use Rattle.changes.proofs.change.modify_at.Statement.{statement}
 use Rattle.changes.proofs.change.modify_at.Tie as tie

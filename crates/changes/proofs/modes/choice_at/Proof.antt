@@ -1,6 +1,6 @@
 use mathlib.Core.Path.{ap, _∙_}
 use borrow.Author.Tests.{ne-eqb}
-use Rattle.questions.specs.Reader.{andThen}
+use Rattle.page_questions.specs.Reader.{andThen}
 use Rattle.changes.specs.Deeds.{choiceAt, chosenBy}
 use Rattle.changes.proofs.ModeLaws.{operands-then}
 use borrow.Author.Needs.{needs}

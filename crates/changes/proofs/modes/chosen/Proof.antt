@@ -1,7 +1,7 @@
 use mathlib.Core.Path.{sym, ap}
 use mir.Facts.{toZ-ofZ}
 use Rattle.changes.specs.Deeds.{operandOf}
-use Rattle.questions.proofs.Steps.{on-good, on-bad}
+use Rattle.page_questions.proofs.Steps.{on-good, on-bad}
 use borrow.Author.Needs.{needs}
 use Rattle.changes.proofs.modes.chosen.Statement.{statement}
 use Rattle.changes.proofs.modes.chosen.Tie as tie

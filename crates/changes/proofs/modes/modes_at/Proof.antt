@@ -2,11 +2,11 @@ use borrow.Author.Needs.{needs}
 use mathlib.Core.Path.{sym, ap, _∙_, refl}
 use mathlib.Core.List.{[]}
 use Prim.Native.Nat.{_-_}
-use Rattle.meaning.specs.Limits.{mostColumns}
-use Rattle.questions.specs.Reader.{many, modeAt}
-use Rattle.asked.specs.Held.{settingOf}
+use Rattle.page_meaning.specs.Limits.{mostColumns}
+use Rattle.page_questions.specs.Reader.{many, modeAt}
+use Rattle.question.specs.Held.{settingOf}
 use Rattle.changes.specs.Deeds.{choiceOf}
-use Rattle.questions.proofs.Loops.{Going, going-start, going-on, going-bad, going-end}
+use Rattle.page_questions.proofs.Loops.{Going, going-start, going-on, going-bad, going-end}
 use Rattle.changes.proofs.modes.modes_at.Statement.{statement}
 use Rattle.changes.proofs.modes.modes_at.Tie as tie
 

@@ -1,17 +1,17 @@
-use Rattle.meaning.specs.Limits.{mostColumns}
-use Rattle.questions.specs.Reader.{rowAt, many, valueAt}
+use Rattle.page_meaning.specs.Limits.{mostColumns}
+use Rattle.page_questions.specs.Reader.{rowAt, many, valueAt}
 use lib.ListN.{take}
 use mir.Facts.{toZ-ofZ}
 use mathlib.Core.List.{map-id, [], map}
-use Rattle.asked.proofs.RowRun.{ranges-length, this-value}
+use Rattle.question.proofs.RowRun.{ranges-length, this-value}
 use borrow.Author.Needs.{needs}
 use mathlib.Core.Path.{_≡_, sym, ap, _∙_, refl}
 use Prim.Native.Nat.{_-_}
 use native.Mathlib.Omega.{arith}
 use lib.IntN.{ℤ}
 use Rattle.fields.specs.Bytes.{numberOf}
-use Rattle.asked.specs.Parts.{rangesAt}
-use Rattle.questions.proofs.Loops.{Going, going-start, going-on, going-bad, going-end}
+use Rattle.question.specs.Parts.{rangesAt}
+use Rattle.page_questions.proofs.Loops.{Going, going-start, going-on, going-bad, going-end}
 use Rattle.changes.proofs.rows.row_at.Statement.{statement}
 use Rattle.changes.proofs.rows.row_at.Tie as tie
 

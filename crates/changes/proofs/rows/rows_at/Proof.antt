@@ -1,14 +1,14 @@
-use Rattle.meaning.specs.Limits.{mostRows}
-use Rattle.asked.specs.declared.types.Answer.{Answer}
+use Rattle.page_meaning.specs.Limits.{mostRows}
+use Rattle.question.specs.declared.types.Answer.{Answer}
 use borrow.Author.Needs.{needs}
 use mathlib.Core.Path.{sym, ap, _∙_, refl}
 use mathlib.Core.List.{[]}
 use Prim.Native.Nat.{_-_}
-use Rattle.questions.specs.Reader.{many, rowAt}
-use Rattle.asked.specs.Held.{rowOf}
+use Rattle.page_questions.specs.Reader.{many, rowAt}
+use Rattle.question.specs.Held.{rowOf}
 use Rattle.changes.specs.Deeds.{lineBy}
-use Rattle.asked.specs.Parts.{rangesAt}
-use Rattle.questions.proofs.Loops.{Going, going-start, going-on, going-bad, going-end}
+use Rattle.question.specs.Parts.{rangesAt}
+use Rattle.page_questions.proofs.Loops.{Going, going-start, going-on, going-bad, going-end}
 use Rattle.changes.proofs.rows.rows_at.Statement.{statement}
 use Rattle.changes.proofs.rows.rows_at.Tie as tie
 

@@ -1,6 +1,6 @@
 use native.Mathlib.Omega.{arith}
 use borrow.Author.Tests.{le-leb, lt-leb, ne-eqb}
-use Rattle.sheets.specs.Sheet.{checkSheet}
+use Rattle.page_sheets.specs.Sheet.{checkSheet}
 use borrow.Author.Needs.{needs}
 use Rattle.checker.proofs.header.from_mark.Statement.{statement}
 use Rattle.checker.proofs.header.from_mark.Tie as tie

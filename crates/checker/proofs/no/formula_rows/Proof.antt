@@ -3,14 +3,14 @@ use mathlib.Core.Bool.{cond}
 use Prim.Native.Nat.{_+_}
 use native.Mathlib.Omega.{arith}
 use lib.ListN.{length-map}
-use Rattle.asked.specs.Held.{questionOf}
-use Rattle.formulae.specs.Formulas.{Formula}
+use Rattle.question.specs.Held.{questionOf}
+use Rattle.page_formulas.specs.Formulas.{Formula}
 use Rattle.sights.specs.Seen.{Whole}
-use Rattle.sights.specs.Spans.{Compiled}
+use Rattle.program.specs.Compiled.{Compiled}
 use Rattle.sights.proofs.Shapes.{columns-length}
-use Rattle.sheets.specs.Rows.{fields}
-use Rattle.sheets.specs.Sheet.{noEnd}
-use Rattle.sheet.specs.NoSheet.{afterFields, FieldsInside}
+use Rattle.page_sheets.specs.Rows.{fields}
+use Rattle.page_sheets.specs.Sheet.{noEnd}
+use Rattle.checker_rows.specs.NoSheet.{afterFields, FieldsInside}
 use Rattle.checker.proofs.RowRun.{two-most, rows-after}
 use borrow.Author.Needs.{needs}
 use Rattle.checker.proofs.no.formula_rows.Statement.{statement}

@@ -2,11 +2,11 @@ use Prim.Native.Nat.{_<_}
 use native.Mathlib.Omega.{arith}
 use lib.ListN.{length, getD}
 use borrow.Author.Tests.{le-leb, lt-leb, lt-ltb, le-ltb}
-use Rattle.asked.specs.Held.{questionOf}
-use Rattle.formulae.specs.Formulas.{formulas}
+use Rattle.question.specs.Held.{questionOf}
+use Rattle.page_formulas.specs.Formulas.{formulas}
 use Rattle.formula.specs.Able.{formulaAt}
-use Rattle.sheets.specs.Sheet.{checkNo}
-use Rattle.checker.proofs.Numbered.{fine-at}
+use Rattle.page_sheets.specs.Sheet.{checkNo}
+use Rattle.formula.proofs.Fines.{fine-at}
 use borrow.Author.Needs.{needs}
 use Rattle.checker.proofs.no.no_sheet.Statement.{statement}
 use Rattle.checker.proofs.no.no_sheet.Tie as tie

@@ -2,8 +2,8 @@ use mathlib.Core.Path.{ap₂, _∙_}
 use mathlib.Core.Bool.{cond}
 use lib.Dec.{leb}
 use lib.ListN.{length}
-use Rattle.sheets.specs.Rows.{fieldAt}
-use Rattle.sheets.specs.Sheet.{says, sayNo, refusal, noEnd}
+use Rattle.page_sheets.specs.Rows.{fieldAt}
+use Rattle.page_sheets.specs.Sheet.{says, sayNo, refusal, noEnd}
 use borrow.Author.Needs.{needs}
 use Rattle.checker.proofs.no.rows_end.Statement.{statement}
 use Rattle.checker.proofs.no.rows_end.Tie as tie

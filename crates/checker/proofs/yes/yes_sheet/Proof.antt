@@ -3,16 +3,16 @@ use Prim.Native.Nat.{_-_, _≤_, _<_}
 use mathlib.Core.Path.{_≡_, refl, sym, ap, subst, _∙_}
 use native.Mathlib.Omega.{arith}
 use lib.ListN.{length, drop, length-drop}
-use Rattle.meaning.specs.Limits.{mostVertices}
-use Rattle.asked.specs.Held.{questionOf}
-use Rattle.formulae.specs.Formulas.{formulas}
+use Rattle.page_meaning.specs.Limits.{mostVertices}
+use Rattle.question.specs.Held.{questionOf}
+use Rattle.page_formulas.specs.Formulas.{formulas}
 use Rattle.formula.specs.Able.{formulaAt}
-use Rattle.sheet.specs.declared.nodes.Past.{Past}
-use Rattle.sheet.specs.Checking.{outcomeOf}
-use Rattle.sheets.specs.Tree.{checkTree}
-use Rattle.sheets.specs.Sheet.{checkYes}
-use Rattle.sheets.proofs.Cycles.{to-the-end}
-use Rattle.checker.proofs.Numbered.{fine-at}
+use Rattle.checker_trees.specs.declared.nodes.Past.{Past}
+use Rattle.checker_trees.specs.Checking.{outcomeOf}
+use Rattle.page_sheets.specs.Tree.{checkTree}
+use Rattle.page_sheets.specs.Sheet.{checkYes}
+use Rattle.page_sheets.proofs.Cycles.{to-the-end}
+use Rattle.formula.proofs.Fines.{fine-at}
 use Rattle.checker.proofs.TreeRun.{left, Inside, past-inside, tree-good, tree-bad, trees-left, trees-done}
 use borrow.Author.Needs.{needs}
 use Rattle.checker.proofs.yes.yes_sheet.Statement.{statement}

@@ -1,6 +1,6 @@
 use borrow.Author.Needs.{needs}
 use native.Mathlib.Omega.{arith}
-use Rattle.questions.proofs.FieldLaws.{short, below, above, within}
+use Rattle.page_questions.proofs.FieldLaws.{short, below, above, within}
 use Rattle.fields.proofs.fields.byte_at.Statement.{statement}
 use Rattle.fields.proofs.fields.byte_at.Tie as tie
 

@@ -6,7 +6,7 @@ use lib.Signed.{ltZ}
 use mir.Facts.{toZ-ofZ}
 use mir.Val.{SFits}
 use mir.Syntax.{w32}
-use Rattle.questions.proofs.FieldLaws.{int-short, int-low, int-high, int-right}
+use Rattle.page_questions.proofs.FieldLaws.{int-short, int-low, int-high, int-right}
 use Rattle.fields.proofs.fields.number_at.Statement.{statement}
 use Rattle.fields.proofs.fields.number_at.Tie as tie
 

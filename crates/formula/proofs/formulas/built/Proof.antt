@@ -1,9 +1,9 @@
 use Prim.Native.Nat.{_<_}
 use mathlib.Core.Path.{sym, subst}
 use lib.ListN.{length}
-use Rattle.meaning.specs.Contents.{delete}
-use Rattle.asked.specs.Held.{questionOf}
-use Rattle.sights.specs.Spans.{Compiled}
+use Rattle.page_meaning.specs.Contents.{delete}
+use Rattle.question.specs.Held.{questionOf}
+use Rattle.program.specs.Compiled.{Compiled}
 use Rattle.formula.specs.Able.{Buildable, deed, formulaAt, askedOf}
 use Rattle.formula.proofs.Numbered.{by-insert, by-delete, by-modify, only-one, row-number}
 use borrow.Author.Needs.{needs}

@@ -1,9 +1,9 @@
 use mathlib.Core.Path.{ap}
-use Rattle.asked.specs.Held.{conditionOf}
-use Rattle.formulae.specs.Parts.{conditionProgram}
+use Rattle.question.specs.Held.{conditionOf}
+use Rattle.page_formulas.specs.Parts.{conditionProgram}
 use Rattle.sights.specs.Seen.{sightOf}
 use Rattle.sights.proofs.Sightings.{usable-still}
-use Rattle.programs.proofs.Weights.{said}
+use Rattle.program.proofs.Weights.{said}
 use borrow.Author.Needs.{needs}
 use Rattle.formula.proofs.listing.before.Statement.{statement}
 use Rattle.formula.proofs.listing.before.Tie as tie

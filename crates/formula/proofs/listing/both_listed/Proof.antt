@@ -1,4 +1,4 @@
-use Rattle.programs.proofs.Weights.{more}
+use Rattle.program.proofs.Weights.{more}
 use borrow.Author.Needs.{needs}
 use Rattle.formula.proofs.listing.both_listed.Statement.{statement}
 use Rattle.formula.proofs.listing.both_listed.Tie as tie

@@ -1,9 +1,9 @@
 use mathlib.Core.Path.{ap, sym}
-use Rattle.asked.specs.Held.{questionOf}
-use Rattle.formulae.specs.Parts.{conditionProgram}
+use Rattle.question.specs.Held.{questionOf}
+use Rattle.page_formulas.specs.Parts.{conditionProgram}
 use Rattle.sights.specs.Seen.{rowSight}
 use Rattle.sights.proofs.Shapes.{condition-is}
-use Rattle.programs.proofs.Weights.{said}
+use Rattle.program.proofs.Weights.{said}
 use borrow.Author.Needs.{needs}
 use Rattle.formula.proofs.listing.listed.Statement.{statement}
 use Rattle.formula.proofs.listing.listed.Tie as tie

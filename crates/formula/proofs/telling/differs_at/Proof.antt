@@ -1,13 +1,13 @@
 use mathlib.Core.Path.{sym, ap, ap₂, _∙_}
 use mathlib.Core.List.{[], _∷_, _++_}
-use Rattle.meaning.specs.Condition.{unequal}
-use Rattle.meaning.specs.Trouble.{kept}
-use Rattle.formulae.specs.Program.{orI}
-use Rattle.formulae.specs.Compile.{comparison}
+use Rattle.page_meaning.specs.Condition.{unequal}
+use Rattle.page_meaning.specs.Trouble.{kept}
+use Rattle.page_formulas.specs.Program.{orI}
+use Rattle.page_formulas.specs.Compile.{comparison}
 use Rattle.sights.proofs.Ranging.{builds-none}
 use Rattle.formula.proofs.Shown.{at-hidden, at-kept, at-shown}
 use Rattle.sights.proofs.Sightings.{stands-near}
-use Rattle.programs.proofs.Weights.{said, more}
+use Rattle.program.proofs.Weights.{said, more}
 use borrow.Author.Needs.{needs}
 use Rattle.formula.proofs.telling.differs_at.Statement.{statement}
 use Rattle.formula.proofs.telling.differs_at.Tie as tie

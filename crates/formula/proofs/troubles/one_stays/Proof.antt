@@ -1,12 +1,12 @@
 use mathlib.Core.Path.{ap, _∙_}
 use mathlib.Core.Bool.{true, false}
 use borrow.Author.Needs.{needs}
-use Rattle.formulae.specs.Parts.{_and_, denied}
-use Rattle.formulae.specs.Formulas as F
-use Rattle.programs.specs.Built.{Room}
+use Rattle.page_formulas.specs.Parts.{_and_, denied}
+use Rattle.page_formulas.specs.Formulas as F
+use Rattle.program.specs.Built.{Room}
 use Rattle.formula.specs.Able.{rowOf}
 use Rattle.formula.proofs.Troubled.{all, rest, enough, two, before, stays}
-use Rattle.programs.proofs.Weights.{more}
+use Rattle.program.proofs.Weights.{more}
 use Rattle.formula.proofs.troubles.one_stays.Statement.{statement}
 use Rattle.formula.proofs.troubles.one_stays.Tie as tie
 

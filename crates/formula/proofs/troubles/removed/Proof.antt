@@ -1,10 +1,10 @@
 use mathlib.Core.Path.{ap}
 use borrow.Author.Needs.{needs}
-use Rattle.formulae.specs.Parts.{_and_}
-use Rattle.formulae.specs.Formulas as F
-use Rattle.programs.specs.Built.{Room}
+use Rattle.page_formulas.specs.Parts.{_and_}
+use Rattle.page_formulas.specs.Formulas as F
+use Rattle.program.specs.Built.{Room}
 use Rattle.formula.proofs.Troubled.{all, rest, enough, one, before, chosen}
-use Rattle.programs.proofs.Weights.{more}
+use Rattle.program.proofs.Weights.{more}
 use Rattle.formula.proofs.troubles.removed.Statement.{statement}
 use Rattle.formula.proofs.troubles.removed.Tie as tie
 

@@ -5,8 +5,8 @@ use mir.Facts.{toZ-ofZ}
 use lib.IntN.{negsuc, negℤ, pos}
 use mir.Syntax.{w64}
 use mir.Val.{toZ, ofZ}
-use Rattle.ints.proofs.Bridge.{neg-up, neg-dn}
-use Rattle.ints.proofs.Machine.{held, diff, fits-up, fits-dn}
+use Rattle.page_numbers.proofs.Bridge.{neg-up, neg-dn}
+use Rattle.page_numbers.proofs.Machine.{held, diff, fits-up, fits-dn}
 use Rattle.ints.proofs.weights.negation.Statement.{statement}
 use Rattle.ints.proofs.weights.negation.Tie as tie
 

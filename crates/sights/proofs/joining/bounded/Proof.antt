@@ -3,12 +3,12 @@ use mathlib.Core.List.{[], _∷_, _++_}
 use mir.Syntax.{w32}
 use mir.Val.{SFits}
 use mir.Facts.{toZ-ofZ}
-use Rattle.meaning.specs.Condition.{atMost, atLeast}
-use Rattle.formulae.specs.Program.{andI}
-use Rattle.formulae.specs.Compile.{comparison, constantTerm}
-use Rattle.programs.specs.Built.{termOf}
+use Rattle.page_meaning.specs.Condition.{atMost, atLeast}
+use Rattle.page_formulas.specs.Program.{andI}
+use Rattle.page_formulas.specs.Compile.{comparison, constantTerm}
+use Rattle.program.specs.Built.{termOf}
 use Rattle.sights.proofs.Sightings.{stands-near}
-use Rattle.programs.proofs.Weights.{said, more}
+use Rattle.program.proofs.Weights.{said, more}
 use borrow.Author.Needs.{needs}
 use Rattle.sights.proofs.joining.bounded.Statement.{statement}
 use Rattle.sights.proofs.joining.bounded.Tie as tie

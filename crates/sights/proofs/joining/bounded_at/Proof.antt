@@ -1,11 +1,11 @@
 use Prim.Native.Nat.{_+_}
 use lib.ListN.{getD}
-use Rattle.asked.specs.Held.{columnOf}
-use Rattle.formulae.specs.Formulas.{bounded}
+use Rattle.question.specs.Held.{columnOf}
+use Rattle.page_formulas.specs.Formulas.{bounded}
 use Rattle.sights.specs.Seen.{noColumn}
-use Rattle.programs.proofs.Weights.{said}
+use Rattle.program.proofs.Weights.{said}
 use mathlib.Core.Path.{sym, ap, _∙_}
-use Rattle.meaning.specs.Trouble.{kept}
+use Rattle.page_meaning.specs.Trouble.{kept}
 use Rattle.sights.proofs.Sightings.{stands-near}
 use Rattle.sights.proofs.Ranging.{builds-none, test-none, test-is}
 use borrow.Author.Needs.{needs}

@@ -1,4 +1,4 @@
-use Rattle.programs.proofs.Weights.{within}
+use Rattle.program.proofs.Weights.{within}
 use Prim.Native.Nat.{_-_, _≤_}
 use native.Mathlib.Omega.{arith}
 use borrow.Author.Needs.{needs}

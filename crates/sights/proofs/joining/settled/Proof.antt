@@ -1,8 +1,8 @@
 use mathlib.Core.Path.{ap₂, sym}
-use Rattle.formulae.specs.Parts.{conditionProgram}
+use Rattle.page_formulas.specs.Parts.{conditionProgram}
 use Rattle.sights.proofs.Shapes.{condition-is}
 use Rattle.sights.proofs.Sightings.{sight-moved}
-use Rattle.programs.proofs.Weights.{said, more}
+use Rattle.program.proofs.Weights.{said, more}
 use borrow.Author.Needs.{needs}
 use Rattle.sights.proofs.joining.settled.Statement.{statement}
 use Rattle.sights.proofs.joining.settled.Tie as tie

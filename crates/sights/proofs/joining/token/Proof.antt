@@ -1,5 +1,5 @@
 use mathlib.Core.Path.{ap}
-use Rattle.asked.specs.Held.{kindOf}
+use Rattle.question.specs.Held.{kindOf}
 use Rattle.sights.proofs.Sightings.{stands-near}
 use borrow.Author.Needs.{needs}
 use Rattle.sights.proofs.joining.token.Statement.{statement}

@@ -2,7 +2,7 @@ use mir.Facts.{toZ-ofZ}
 use mir.Syntax.{w32, w64}
 use mir.Val.{SFits}
 use mathlib.Core.Path.{_≡_, refl, ap}
-use Rattle.asked.specs.Held.{sideOf}
+use Rattle.question.specs.Held.{sideOf}
 use lib.IntN.{_+ℤ_}
 use Rattle.sights.proofs.Sightings.{near-constant, plus-fits, plus-is, near-plus, stands-fits}
 use borrow.Author.Needs.{needs}

@@ -2,7 +2,7 @@ use mir.Facts.{toZ-ofZ}
 use mir.Syntax.{w32, w64}
 use mir.Val.{SFits}
 use mathlib.Core.Path.{_≡_, sym, ap, _∙_}
-use Rattle.asked.specs.Held.{modeOf}
+use Rattle.question.specs.Held.{modeOf}
 use Rattle.sights.proofs.Sightings.{stands-keep, stands-become, stands-shift}
 use borrow.Author.Needs.{needs}
 use Rattle.sights.proofs.seeing.term_at.Statement.{statement}

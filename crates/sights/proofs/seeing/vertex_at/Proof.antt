@@ -1,4 +1,4 @@
-use Rattle.asked.specs.Held.{questionOf}
+use Rattle.question.specs.Held.{questionOf}
 use Rattle.sights.proofs.Sightings.{first-vertex, shown-vertex, hidden-vertex}
 use borrow.Author.Needs.{needs}
 use Rattle.sights.proofs.seeing.vertex_at.Statement.{statement}

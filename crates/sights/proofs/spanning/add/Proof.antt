@@ -2,7 +2,7 @@ use mathlib.Core.Path.{_≡_}
 use mir.Syntax.{w32, w64}
 use mir.Val.{SFits}
 use mir.Facts.{toZ-ofZ}
-use Rattle.asked.specs.Held.{columnOf}
+use Rattle.question.specs.Held.{columnOf}
 use Rattle.sights.proofs.VertexLaws.{spans-add}
 use borrow.Author.Needs.{needs}
 use Rattle.sights.proofs.spanning.add.Statement.{statement}

@@ -1,10 +1,10 @@
 use Prim.Native.Nat.{_-_, _≤_}
 use lib.ListN.{take}
 use borrow.Author.Needs.{needs}
-use Rattle.meaning.specs.Contents.{columns}
-use Rattle.asked.specs.Held.{questionOf}
-use Rattle.formulae.specs.Formulas.{firstRanges}
-use Rattle.sights.specs.Spans.{Spans}
+use Rattle.page_meaning.specs.Contents.{columns}
+use Rattle.question.specs.Held.{questionOf}
+use Rattle.page_formulas.specs.Formulas.{firstRanges}
+use Rattle.program.specs.Compiled.{Spans}
 use Rattle.sights.proofs.VertexLaws.{first-room, first-more, first-all}
 use Rattle.sights.proofs.spanning.one_row.Statement.{statement}
 use Rattle.sights.proofs.spanning.one_row.Tie as tie

@@ -2,10 +2,10 @@ use Prim.Native.Nat.{_-_, _≤_}
 use mathlib.Core.List.{_++_}
 use lib.ListN.{take}
 use borrow.Author.Needs.{needs}
-use Rattle.meaning.specs.Contents.{columns}
-use Rattle.asked.specs.Held.{questionOf}
-use Rattle.formulae.specs.Formulas.{firstRanges, hiddenRanges}
-use Rattle.sights.specs.Spans.{Spans}
+use Rattle.page_meaning.specs.Contents.{columns}
+use Rattle.question.specs.Held.{questionOf}
+use Rattle.page_formulas.specs.Formulas.{firstRanges, hiddenRanges}
+use Rattle.program.specs.Compiled.{Spans}
 use Rattle.sights.proofs.VertexLaws.{none-hidden, hidden-room, hidden-more, hidden-all}
 use Rattle.sights.proofs.spanning.two_rows.Statement.{statement}
 use Rattle.sights.proofs.spanning.two_rows.Tie as tie

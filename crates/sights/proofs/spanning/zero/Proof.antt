@@ -4,7 +4,7 @@ use mathlib.Core.Bool.{true, false}
 use mathlib.Core.List.{[]}
 use lib.Dec.{T}
 use lib.ListN.{getD, set, replicate}
-use Rattle.formulae.specs.Vertices.{isSome, present}
+use Rattle.page_formulas.specs.Vertices.{isSome, present}
 use Rattle.sights.proofs.VertexLaws.{all-false}
 use borrow.Author.Needs.{needs}
 use Rattle.sights.proofs.spanning.zero.Statement.{statement}

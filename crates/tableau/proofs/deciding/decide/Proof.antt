@@ -3,7 +3,8 @@ use Prim.Native.Nat.{_-_}
 use mathlib.Core.Path.{_≡_, refl, sym}
 use lib.ListN.{length}
 use lib.Seq.{length-take-le}
-use Rattle.writer.proofs.Plants.{ranged, lengths}
+use Rattle.program.proofs.Ranges.{ranged}
+use Rattle.facts.proofs.Places.{lengths}
 use Rattle.tableau.specs.Nodes.{valueAt}
 use Rattle.tableau.proofs.Roots.{describes, laid, standing, decides}
 use borrow.Author.Needs.{needs}

@@ -1,4 +1,4 @@
-use Rattle.writer.proofs.Plants.{coded-of, ranging-of}
+use Rattle.program.proofs.Ranges.{coded-of, ranging-of}
 use borrow.Author.Needs.{needs}
 use Rattle.tableau.proofs.deciding.formula_opens.Statement.{statement}
 use Rattle.tableau.proofs.deciding.formula_opens.Tie as tie

@@ -3,12 +3,12 @@ use native.Mathlib.Omega.{arith}
 use Prim.Native.Nat.{_-_, _≤_, _<_}
 use mathlib.Core.Path.{subst}
 use lib.ListN.{length}
-use Rattle.asked.specs.Held.{questionOf}
-use Rattle.formulae.specs.Formulas.{formulas}
-use Rattle.formulae.specs.Formulas.{noFormula}
+use Rattle.question.specs.Held.{questionOf}
+use Rattle.page_formulas.specs.Formulas.{formulas, noFormula}
 use Rattle.formula.specs.Able.{formulaAt}
-use Rattle.formulae.proofs.Proper.{Proper, formulas-proper}
-use Rattle.sheets.proofs.Findings.{all-at}
+use Rattle.page_formulas.specs.Proper.{Proper}
+use Rattle.page_formulas.proofs.Proper.{formulas-proper}
+use Rattle.page_sheets.proofs.Findings.{all-at}
 use Rattle.tableau.proofs.Judges.{FailBefore, fail-more, never, says-yes, says-no}
 use borrow.Author.Needs.{needs}
 use Rattle.tableau.proofs.judging.judge.Statement.{statement}

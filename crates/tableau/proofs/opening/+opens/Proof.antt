@@ -6,7 +6,7 @@ use mathlib.Core.Path.{sym, _∙_}
 use mathlib.Core.Logic.{⊎-elim}
 use mathlib.Core.Bool.{true≢false}
 use denote.Ref.{now}
-use Rattle.walks.proofs.Rows.{sized}
+use Rattle.page_walks.proofs.Rows.{sized}
 use borrow.Fn.Kinds.{In}
 use borrow.Fn.PlainCycle.{Measures, is, falls, and}
 use Rattle.tableau.proofs.opening.opens.Reads as opens

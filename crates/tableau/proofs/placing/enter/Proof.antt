@@ -9,9 +9,9 @@ use denote.Ref.{now}
 use mir.Syntax.{w64}
 use mir.Val.{SFits, toZ, ofZ}
 use mir.Facts.{toZ-ofZ}
-use Rattle.walks.specs.Grid.{row, weight, wide, Bounded}
-use Rattle.walks.proofs.Rows.{read}
-use Rattle.walks.proofs.Relaxed.{newRow, reach-bounded, on-within, row-is}
+use Rattle.page_walks.specs.Grid.{row, weight, wide, Bounded}
+use Rattle.page_walks.proofs.Rows.{read}
+use Rattle.page_walks.proofs.Relaxed.{newRow, reach-bounded, on-within, row-is}
 use Rattle.tableau.proofs.Tightens.{Entering, entering-start, entering-stays, entering-row, entering-end, sum-fits, tight-within, tested, below-zero, from-zero, row-read}
 use Rattle.tableau.proofs.placing.enter.Statement.{statement}
 use Rattle.tableau.proofs.placing.enter.Tie as tie

@@ -6,9 +6,9 @@ use denote.Ref.{now}
 use mir.Syntax.{w64}
 use mir.Val.{SFits}
 use mir.Facts.{toZ-ofZ}
-use Rattle.sheet.specs.Checking.{placeAt}
-use Rattle.sheets.specs.Facts.{taken}
-use Rattle.writer.specs.Growing.{Fact}
+use Rattle.program.specs.Lent.{placeAt}
+use Rattle.page_sheets.specs.Facts.{taken}
+use Rattle.grid.specs.Edges.{Fact}
 use Rattle.tableau.proofs.Tightens.{weight-fits, enters-as}
 use borrow.Author.Needs.{needs}
 use Rattle.tableau.proofs.placing.enter_place.Statement.{statement}

@@ -1,9 +1,9 @@
 use mathlib.Core.Path.{sym, ap, _∙_}
 use mir.Facts.{toZ-ofZ}
-use Rattle.questions.specs.Reader.{columnAt}
+use Rattle.page_questions.specs.Reader.{columnAt}
 use Rattle.fields.specs.Bytes.{numberOf}
 use Rattle.tables.specs.Shapes.{highAt}
-use Rattle.questions.proofs.Steps.{on-good, on-bad}
+use Rattle.page_questions.proofs.Steps.{on-good, on-bad}
 use borrow.Author.Needs.{needs}
 use Rattle.tables.proofs.columns.column_at.Statement.{statement}
 use Rattle.tables.proofs.columns.column_at.Tie as tie

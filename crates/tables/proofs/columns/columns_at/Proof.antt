@@ -1,11 +1,11 @@
 use mathlib.Core.Path.{sym, ap, _∙_, refl}
 use mathlib.Core.List.{[]}
 use Prim.Native.Nat.{_-_}
-use Rattle.meaning.specs.Limits.{mostColumns}
-use Rattle.questions.specs.Reader.{many, columnAt}
-use Rattle.asked.specs.Held.{columnOf}
+use Rattle.page_meaning.specs.Limits.{mostColumns}
+use Rattle.page_questions.specs.Reader.{many, columnAt}
+use Rattle.question.specs.Held.{columnOf}
 use Rattle.tables.specs.Shapes.{pillarOf}
-use Rattle.questions.proofs.Loops.{Going, going-start, going-on, going-bad, going-end}
+use Rattle.page_questions.proofs.Loops.{Going, going-start, going-on, going-bad, going-end}
 use borrow.Author.Needs.{needs}
 use Rattle.tables.proofs.columns.columns_at.Statement.{statement}
 use Rattle.tables.proofs.columns.columns_at.Tie as tie

@@ -4,7 +4,7 @@ use mir.Syntax.{w32}
 use mir.Val.{SFits}
 use Rattle.fields.specs.Bytes.{byteOf, numberOf}
 use Rattle.tables.specs.Shapes.{highAt}
-use Rattle.questions.proofs.Steps.{on-good, on-bad}
+use Rattle.page_questions.proofs.Steps.{on-good, on-bad}
 use borrow.Author.Needs.{needs}
 use Rattle.tables.proofs.columns.high_at.Statement.{statement}
 use Rattle.tables.proofs.columns.high_at.Tie as tie

@@ -4,7 +4,7 @@ use mathlib.Core.Path.{_≡_, sym}
 use mathlib.Core.Bool.{false}
 use lib.ListN.{getD}
 use borrow.Author.Count.{below-more}
-use Rattle.asked.proofs.RowRun.{noColumn}
+use Rattle.question.proofs.RowRun.{noColumn}
 use Rattle.tables.proofs.Visible.{some-visible, none-visible}
 use borrow.Author.Needs.{needs}
 use Rattle.tables.proofs.columns.some_visible.Statement.{statement}

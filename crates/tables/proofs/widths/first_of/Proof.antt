@@ -1,10 +1,10 @@
-use Rattle.questions.specs.Layout.{total}
+use Rattle.page_questions.specs.Layout.{total}
 use Prim.Native.Nat.{_+_, _-_, _≤_}
 use mathlib.Core.Path.{_≡_, ap, _∙_, refl}
 use native.Mathlib.Omega.{arith}
 use lib.ListN.{take}
-use Rattle.questions.specs.Layout as layout
-use Rattle.questions.proofs.Sums.{total-more, total-le}
+use Rattle.page_questions.specs.Layout as layout
+use Rattle.page_questions.proofs.Sums.{total-more, total-le}
 use borrow.Author.Needs.{needs}
 use Rattle.tables.proofs.widths.first_of.Statement.{statement}
 use Rattle.tables.proofs.widths.first_of.Tie as tie

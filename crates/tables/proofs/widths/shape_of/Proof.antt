@@ -1,8 +1,8 @@
 use mathlib.Core.Path.{refl, sym, ap, _∙_}
 use native.Mathlib.Omega.{arith}
 use lib.Seq.{take-take, getD-take}
-use Rattle.questions.specs.Layout.{total}
-use Rattle.questions.proofs.Sums.{inside}
+use Rattle.page_questions.specs.Layout.{total}
+use Rattle.page_questions.proofs.Sums.{inside}
 use borrow.Author.Needs.{needs}
 use Rattle.tables.proofs.widths.shape_of.Statement.{statement}
 use Rattle.tables.proofs.widths.shape_of.Tie as tie

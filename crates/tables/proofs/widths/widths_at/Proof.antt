@@ -1,10 +1,10 @@
-use Rattle.meaning.specs.Limits.{mostTables}
-use Rattle.questions.specs.Layout.{total}
+use Rattle.page_meaning.specs.Limits.{mostTables}
+use Rattle.page_questions.specs.Layout.{total}
 use mathlib.Core.Path.{sym, ap, _∙_, refl}
 use Prim.Native.Nat.{_-_}
 use native.Mathlib.Omega.{arith}
 use Rattle.fields.specs.Bytes.{byteOf}
-use Rattle.questions.proofs.Loops.{going-start, going-bad, going-end}
+use Rattle.page_questions.proofs.Loops.{going-start, going-bad, going-end}
 use Rattle.tables.proofs.Totals.{WidthRun, this-width, width-on, counted}
 use borrow.Author.Needs.{needs}
 use Rattle.tables.proofs.widths.widths_at.Statement.{statement}

@@ -1,4 +1,4 @@
-use Rattle.asked.proofs.Answers.{good-so}
+use Rattle.question.proofs.Answers.{good-so}
 use borrow.Author.Needs.{needs}
 use Rattle.tokens.proofs.condition.close.Statement.{statement}
 use Rattle.tokens.proofs.condition.close.Tie as tie

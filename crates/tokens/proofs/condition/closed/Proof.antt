@@ -5,8 +5,8 @@ use native.Mathlib.Omega.{arith}
 use lib.ListN.{length, take, length-map}
 use lib.Seq.{length-take-le}
 use borrow.Author.Tests.{ne-eqb}
-use Rattle.asked.specs.Held.{tokenOf}
-use Rattle.questions.proofs.Counts.{finish-some}
+use Rattle.question.specs.Held.{tokenOf}
+use Rattle.page_questions.proofs.Counts.{finish-some}
 use borrow.Author.Needs.{needs}
 use Rattle.tokens.proofs.condition.closed.Statement.{statement}
 use Rattle.tokens.proofs.condition.closed.Tie as tie

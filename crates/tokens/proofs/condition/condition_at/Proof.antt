@@ -1,9 +1,9 @@
-use Rattle.questions.specs.Reader.{andThen, finish, conditionAt}
+use Rattle.page_questions.specs.Reader.{andThen, finish, conditionAt}
 use native.Mathlib.Omega.{arith}
 use mathlib.Core.Path.{sym, ap, _∙_}
 use Rattle.fields.specs.Bytes.{byteOf}
-use Rattle.questions.proofs.Steps.{on-good, on-bad}
-use Rattle.questions.proofs.FieldLaws.{is-within}
+use Rattle.page_questions.proofs.Steps.{on-good, on-bad}
+use Rattle.page_questions.proofs.FieldLaws.{is-within}
 use borrow.Author.Needs.{needs}
 use Rattle.tokens.proofs.condition.condition_at.Statement.{statement}
 use Rattle.tokens.proofs.condition.condition_at.Tie as tie

@@ -1,9 +1,9 @@
-use Rattle.meaning.specs.Limits.{mostTokens}
-use Rattle.questions.proofs.Loops.{going-start, going-bad, going-end}
+use Rattle.page_meaning.specs.Limits.{mostTokens}
+use Rattle.page_questions.proofs.Loops.{going-start, going-bad, going-end}
 use mathlib.Core.List.{map}
 use lib.ListN.{take}
-use Rattle.asked.specs.Held.{tokenOf}
-use Rattle.questions.specs.Reader.{height}
+use Rattle.question.specs.Held.{tokenOf}
+use Rattle.page_questions.specs.Reader.{height}
 use borrow.Author.Needs.{needs}
 use mathlib.Core.Path.{_≡_, sym, ap, _∙_, refl}
 use Prim.Native.Nat.{_-_}

@@ -1,7 +1,7 @@
 use mathlib.Core.Path.{sym, ap}
-use Rattle.questions.specs.Reader.{counted}
-use Rattle.asked.specs.Held.{kindOf}
-use Rattle.asked.specs.declared.types.Kind.{Kind}
+use Rattle.page_questions.specs.Reader.{counted}
+use Rattle.question.specs.Held.{kindOf}
+use Rattle.question.specs.declared.types.Kind.{Kind}
 use borrow.Author.Needs.{needs}
 use Rattle.tokens.proofs.token.compared_after.Statement.{statement}
 use Rattle.tokens.proofs.token.compared_after.Tie as tie

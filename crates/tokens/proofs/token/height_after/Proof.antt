@@ -1,7 +1,7 @@
 use mathlib.Core.Path.{sym, ap, _∙_}
-use Rattle.questions.specs.Reader.{after}
-use Rattle.asked.specs.Held.{kindOf}
-use Rattle.asked.specs.declared.types.Kind.{Kind}
+use Rattle.page_questions.specs.Reader.{after}
+use Rattle.question.specs.Held.{kindOf}
+use Rattle.question.specs.declared.types.Kind.{Kind}
 use borrow.Author.Needs.{needs}
 use Rattle.tokens.proofs.token.height_after.Statement.{statement}
 use Rattle.tokens.proofs.token.height_after.Tie as tie

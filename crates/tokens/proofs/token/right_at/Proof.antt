@@ -2,7 +2,7 @@ use borrow.Author.Needs.{needs}
 use borrow.Author.Tests.{ne-eqb}
 use denote.Ref.{now}
 use lib.ListN.{List·getD-eq-default}
-use Rattle.questions.proofs.FieldLaws.{short}
+use Rattle.page_questions.proofs.FieldLaws.{short}
 use Rattle.tokens.proofs.token.right_at.Statement.{statement}
 use Rattle.tokens.proofs.token.right_at.Tie as tie
 

@@ -1,7 +1,7 @@
 use mathlib.Core.Path.{sym, ap, _∙_}
 use Rattle.fields.specs.Bytes.{byteOf}
 use Rattle.tokens.specs.Words.{tokenWith}
-use Rattle.questions.proofs.Steps.{on-good, on-bad}
+use Rattle.page_questions.proofs.Steps.{on-good, on-bad}
 use borrow.Author.Needs.{needs}
 use Rattle.tokens.proofs.token.token_at.Statement.{statement}
 use Rattle.tokens.proofs.token.token_at.Tie as tie

@@ -5,13 +5,13 @@ use Prim.Native.Nat.{_-_, _≤_, _<_}
 use mathlib.Core.Path.{_≡_, refl}
 use denote.Ref.{now}
 use lib.ListN.{length}
-use Rattle.asked.specs.Held.{questionOf}
-use Rattle.formulae.specs.Formulas.{formulas}
-use Rattle.formulae.specs.Formulas.{noFormula}
+use Rattle.question.specs.Held.{questionOf}
+use Rattle.page_formulas.specs.Formulas.{formulas, noFormula}
 use Rattle.formula.specs.Able.{formulaAt}
-use Rattle.formulae.proofs.Proper.{Proper, formulas-proper}
-use Rattle.sheets.proofs.Findings.{all-at}
-use Rattle.sheets.specs.Sheet.{findingOf}
+use Rattle.page_formulas.specs.Proper.{Proper}
+use Rattle.page_formulas.proofs.Proper.{formulas-proper}
+use Rattle.page_sheets.proofs.Findings.{all-at}
+use Rattle.page_sheets.specs.Sheet.{findingOf}
 use Rattle.writer.proofs.Finds.{Sown, sown-start, sown-more, found-first, found-none}
 use Rattle.writer.proofs.finding.find.Statement.{statement}
 use Rattle.writer.proofs.finding.find.Tie as tie

@@ -1,2 +1,0 @@
-pub mod limits;
-pub mod types;

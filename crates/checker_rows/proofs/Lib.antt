@@ -1,0 +1,3 @@
+pub mod Allowed
+pub mod Valued
+pub mod Truths

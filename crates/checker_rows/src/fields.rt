@@ -1,0 +1,34 @@
+// The rows of a no sheet (specs/Rows, specs/Sheet): each field's value may stand there, and the formula is true at them.
+use question::types::Question;
+ghost use Prim.Native.Nat.{_+_, _≤_, _<_};
+ghost use lib.ListN.{length};
+ghost use Rattle.question.specs.Held.{questionOf};
+ghost use Rattle.sights.specs.Seen.{Whole};
+ghost use Rattle.page_sheets.specs.Rows.{fieldOk};
+ghost use Rattle.checker_rows.specs.NoSheet.{FieldsRead};
+
+// Every field is there and its value may stand in it; or the first that is not so.
+pub enum Reading {
+    All,
+    Refused(u8, usize),
+}
+
+// The first `count` fields.
+pub fn fields(q: Question, i: usize, sheet: &[u8], count: usize) -> Reading
+    requires { ⌜ Whole q × (count ≤ q .shape .total + q .shape .total) × (8 ≤ length (now sheet)) ⌝ }
+    ensures { λ r. ⌜ FieldsRead (fieldOk (questionOf q) i (now (sheet .entry))) (now (sheet .entry)) count r ⌝ }
+{
+    let mut j: usize = 0;
+    while j < count {
+        let at = 8 + 4 * j;
+        if sheet.len() < at + 4 {
+            return Reading::Refused(11, at);
+        }
+        if crate::allowances::field_allows(q, i, sheet, j) {
+            j += 1;
+            continue;
+        }
+        return Reading::Refused(15, at);
+    }
+    Reading::All
+}

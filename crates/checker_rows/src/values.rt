@@ -1,0 +1,77 @@
+// Whether a formula is true at given values of its vertices: every place is tested, and so the formula is known.
+use truth::knowing::Truth;
+use truth::knowing::known;
+ghost use mathlib.Core.Path.{_≡_};
+ghost use Prim.Native.Nat.{ℕ, _+_, _*_, _≤_, _<_};
+ghost use lib.ListN.{length, getD};
+ghost use lib.IntN.{pos, _+ℤ_};
+ghost use lib.Signed.{leZ};
+ghost use Rattle.page_meaning.specs.Limits.{mostVertices};
+ghost use Rattle.page_walks.specs.Grid.{Bounded, least-weight};
+ghost use Rattle.truth.specs.Cells.{bit};
+ghost use Rattle.page_formulas.specs.Program.{Values, truth};
+ghost use Rattle.page_formulas.specs.Formulas.{Formula};
+ghost use Rattle.page_sheets.specs.Rows.{fieldAt};
+ghost use Rattle.program.specs.Lent.{Lent, Places};
+ghost use Rattle.checker_rows.specs.NoSheet.{ValuesRead, Small, Tested};
+
+// 0 at vertex 0, field j at vertex 1 + j.
+pub fn values(sheet: &[u8], count: usize) -> [i64; 17]
+    requires { ⌜ (count < mostVertices) × (fieldAt count ≤ length (now sheet)) ⌝ }
+    ensures { λ r. ⌜ ValuesRead (now (sheet .entry)) count r ⌝ }
+{
+    let mut x: [i64; 17] = [0; 17];
+    let mut j: usize = 0;
+    while j < count {
+        let z = ints::read_i32(sheet, 8 + 4 * j);
+        x[j + 1] = ints::weights::wide(z);
+        j += 1;
+    }
+    x
+}
+
+// 1 where left − right ≤ most holds at the values.
+fn place_truth(values: [i64; 17], left: u8, right: u8, most: i64) -> u8
+    requires { ⌜ Small values × (left < mostVertices) × (right < mostVertices) × Bounded least-weight most ⌝ }
+    ensures { λ r. ⌜ bit r ≡ leZ (getD values left (pos 0)) (getD values right (pos 0) +ℤ most) ⌝ }
+{
+    let a = values[left as usize];
+    let b = values[right as usize];
+    if a <= ints::weights::sum(b, most) {
+        1
+    } else {
+        0
+    }
+}
+
+// Every place of a formula: 1 where it holds.
+fn decisions(left: &[u8], right: &[u8], most: &[i64], values: [i64; 17]) -> [u8; 120]
+    requires { ⌜ Places (now left) (now right) (now most) × Small values ⌝ }
+    ensures { λ r. ⌜ Tested values (now (left .entry)) (now (right .entry)) (now (most .entry)) r ⌝ }
+{
+    let mut t: [u8; 120] = [0; 120];
+    let mut i: usize = 0;
+    while i < left.len() {
+        let a = left[i];
+        let b = right[i];
+        let k = most[i];
+        t[i] = place_truth(values, a, b, k);
+        i += 1;
+    }
+    t
+}
+
+// Is the formula true at the values?
+pub fn met(kinds: &[u8], left: &[u8], right: &[u8], most: &[i64], values: [i64; 17]) -> bool
+    requires { ⌜ (length (now kinds) ≤ 320) × Places (now left) (now right) (now most) × Small values ⌝ }
+    ensures { λ r. ⌜ ((F : Formula) (x : Values) → Lent (F .program) (now (kinds .entry)) (now (left .entry)) (now (right .entry)) (now (most .entry)) → ((v : ℕ) → getD values v (pos 0) ≡ x v) → r ≡ truth x (F .program)) ⌝ }
+{
+    let t = decisions(left, right, most, values);
+    let n = left.len();
+    let k = known(kinds, &t[..n]);
+    match k {
+        Truth::Fails => false,
+        Truth::Passes => true,
+        Truth::Open => false,
+    }
+}

@@ -1,0 +1,4 @@
+// The trees of a yes sheet: their nodes, a tree, and that of a compiled formula.
+pub mod formulas;
+pub mod nodes;
+mod trees;

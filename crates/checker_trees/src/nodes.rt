@@ -1,0 +1,105 @@
+// The nodes of a case tree, one at a time: what the checker says of each (specs/Tree).
+use truth::knowing::Truth;
+ghost use mathlib.Core.Path.{_≡_};
+ghost use Prim.Native.Nat.{ℕ, _+_, _≤_, _<_};
+ghost use mathlib.Core.List.{map};
+ghost use lib.ListN.{length, take, drop};
+ghost use lib.IntN.{pos};
+ghost use lib.Signed.{ltZ};
+ghost use Rattle.page_meaning.specs.Limits.{mostVertices};
+ghost use Rattle.page_walks.specs.Walk.{Below, closed};
+ghost use Rattle.page_walks.specs.Grid.{weight, farN, Sized, AllWithin};
+ghost use Rattle.truth.specs.Cells.{bit};
+ghost use Rattle.page_formulas.specs.Known.{knownKinds};
+ghost use Rattle.page_formulas.specs.Formulas.{Formula};
+ghost use Rattle.page_sheets.specs.Tree.{falseNode, cycleNode};
+ghost use Rattle.checker_trees.specs.Checking.{outcomeOf, Named};
+ghost use Rattle.program.specs.Lent.{Shows};
+
+// Where a tree, or a part of it, ends in the bytes that were lent; or the number that says no, and where.
+pub enum Past {
+    At(usize),
+    Refused(u8, usize),
+}
+
+// The vertices of a node 2: all there, or the first that is missing or that the formula lacks.
+pub enum Naming {
+    All,
+    Lacking(u8, usize),
+}
+
+// The first `count` bytes as vertices.
+fn named(shown: &[bool], bytes: &[u8], count: usize) -> Naming
+    ensures { λ r. ⌜ Named (now (shown .entry)) count (now (bytes .entry)) r ⌝ }
+{
+    let mut i: usize = 0;
+    while i < count {
+        if bytes.len() <= i {
+            return Naming::Lacking(11, i);
+        }
+        let v = bytes[i] as usize;
+        if shown.len() <= v {
+            return Naming::Lacking(14, i);
+        }
+        if shown[v] {
+            i += 1;
+            continue;
+        }
+        return Naming::Lacking(14, i);
+    }
+    Naming::All
+}
+
+// Node 1: the formula is false by what was decided.
+pub fn false_leaf(kinds: &[u8], truths: [u8; 120], decided: usize, part: &[u8], at: usize) -> Past
+    requires { ⌜ (length (now kinds) ≤ 320) × (decided ≤ 120) × (at < length (now part)) ⌝ }
+    ensures { λ r. ⌜ ((base : ℕ) → outcomeOf base (now (part .entry)) r ≡ falseNode (knownKinds (now (kinds .entry)) (map bit (take decided truths))) (base + at) (drop (at + 1) (now (part .entry)))) ⌝ }
+{
+    let t = truth::knowing::known(kinds, &truths[..decided]);
+    match t {
+        Truth::Fails => Past::At(at + 1),
+        Truth::Passes => Past::Refused(15, at),
+        Truth::Open => Past::Refused(15, at),
+    }
+}
+
+// Following the edges and back to the first gives a sum below zero.
+fn below_zero(g: &[[i64; 17]; 17], vertices: &[u8]) -> bool
+    requires { ⌜ (0 < length (now vertices)) × (length (now vertices) ≤ mostVertices) × Below mostVertices (now vertices) ⌝ }
+    requires { ⌜ Sized mostVertices (now g) × AllWithin farN mostVertices (now g) ⌝ }
+    ensures { λ r. ⌜ r ≡ ltZ (closed (weight (now (g .entry))) (now (vertices .entry))) (pos 0) ⌝ }
+{
+    let sum = grid::closing(g, vertices);
+    sum < 0
+}
+
+// Node 2: count 1 to 17, vertices.
+pub fn cycle(shown: &[bool], g: &[[i64; 17]; 17], part: &[u8], at: usize) -> Past
+    requires { ⌜ (length (now shown) ≤ mostVertices) × (at < length (now part)) ⌝ }
+    requires { ⌜ Sized mostVertices (now g) × AllWithin farN mostVertices (now g) ⌝ }
+    ensures { λ r. ⌜ ((F : Formula) (base : ℕ) → Shows (now (shown .entry)) (F .ranges) → outcomeOf base (now (part .entry)) r ≡ cycleNode mostVertices F (now (g .entry)) (base + at) (drop (at + 1) (now (part .entry)))) ⌝ }
+{
+    let from = at + 1;
+    if part.len() <= from {
+        return Past::Refused(11, from);
+    }
+    let count = part[from] as usize;
+    if count == 0 {
+        return Past::Refused(14, from);
+    }
+    if 17 < count {
+        return Past::Refused(14, from);
+    }
+    let first = from + 1;
+    let bytes = &part[first..];
+    let found = named(shown, bytes, count);
+    match found {
+        Naming::All => {
+            if below_zero(g, &bytes[..count]) {
+                return Past::At(first + count);
+            }
+            Past::Refused(15, at)
+        }
+        Naming::Lacking(number, p) => Past::Refused(number, first + p),
+    }
+}

@@ -1,0 +1,68 @@
+ghost use mathlib.Core.Path.{_≡_};
+ghost use Prim.Native.Nat.{_-_, _<_, _≤_};
+ghost use lib.IntN.{pos, _+ℤ_};
+ghost use lib.ListN.{length, getD};
+ghost use Rattle.page_numbers.specs.Numbers.{minZ};
+ghost use Rattle.page_meaning.specs.Limits.{mostVertices};
+ghost use Rattle.page_walks.specs.Grid.{blank, row, weight, filled, tabled, wide, farN, Bounded, Sized, RowWithin, AllWithin};
+ghost use Rattle.page_walks.specs.Search.{least};
+ghost use Rattle.page_walks.specs.Near.{relax, nearBlank};
+use grid::FAR;
+use grid::VERTICES;
+use grid::lesser;
+
+// The least sums where there is no fact: 0 from each vertex to itself.
+pub fn near_blank() -> [[i64; VERTICES]; VERTICES]
+    ensures { λ r. ⌜ r ≡ tabled nearBlank mostVertices (blank mostVertices) ⌝ }
+{
+    let mut h = [[FAR; VERTICES]; VERTICES];
+    for u in 0..VERTICES {
+        h[u][u] = 0;
+    }
+    h
+}
+
+// One row of the least sums with a new edge: reach is the sum of the way to the edge and along it, on the row of the way on.
+pub fn relax_row(row: &mut [i64], on: &[i64], n: usize, reach: i64)
+    requires { ⌜ (n ≤ length (now row)) × (n ≤ length (now on)) ⌝ }
+    requires { ⌜ Bounded wide reach ⌝ }
+    requires { ⌜ RowWithin wide n (now on) ⌝ }
+    ensures { λ _. ⌜ now (row .exit) ≡ filled (λ v. minZ (getD (now (row .entry)) v (pos 0)) (reach +ℤ getD (now (on .entry)) v (pos 0))) n (now (row .entry)) ⌝ }
+{
+    for v in 0..n {
+        let round = reach + on[v];
+        row[v] = lesser(row[v], round);
+    }
+}
+
+// The least sums with a new edge from b to a of weight k, in the grid that is lent.
+pub fn relax_in(near: &mut [[i64; VERTICES]; VERTICES], n: usize, b: usize, a: usize, k: i64)
+    requires { ⌜ (n ≤ mostVertices) × (b < n) × (a < n) × Sized mostVertices (now near) ⌝ }
+    requires { ⌜ Bounded farN k ⌝ }
+    requires { ⌜ AllWithin farN n (now near) ⌝ }
+    ensures { λ _. ⌜ now (near .exit) ≡ tabled (relax (weight (now (near .entry))) b a k) n (now (near .entry)) ⌝ }
+{
+    let on = near[a];
+    for u in 0..n {
+        let reach = near[u][b] + k;
+        relax_row(&mut near[u], &on, n, reach);
+    }
+}
+
+// The same by value.
+pub fn relax(
+    near: [[i64; VERTICES]; VERTICES],
+    n: usize,
+    b: usize,
+    a: usize,
+    k: i64,
+) -> [[i64; VERTICES]; VERTICES]
+    requires { ⌜ (n ≤ mostVertices) × (b < n) × (a < n) ⌝ }
+    requires { ⌜ Bounded farN k ⌝ }
+    requires { ⌜ AllWithin farN n near ⌝ }
+    ensures { λ r. ⌜ r ≡ tabled (relax (weight near) b a k) n near ⌝ }
+{
+    let mut h = near;
+    relax_in(&mut h, n, b, a, k);
+    h
+}

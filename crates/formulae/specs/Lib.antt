@@ -1,6 +1,0 @@
-pub mod Program
-pub mod Compile
-pub mod Parts
-pub mod Known
-pub mod Vertices
-pub mod Formulas

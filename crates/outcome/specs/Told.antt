@@ -1,0 +1,29 @@
+-- This paper's number and values for each case of the answers.
+use Prim.Native.Nat.{ℕ}
+use mathlib.Core.List.{List}
+use Rattle.outcome.specs.declared.Verdict.{Verdict}
+use Rattle.outcome.specs.declared.Verdict.the-variants.{Yes, No}
+use Rattle.outcome.specs.declared.Judged.{Judged}
+use Rattle.outcome.specs.declared.Judged.the-variants as judged
+use Rattle.outcome.specs.declared.Written.{Written}
+use Rattle.outcome.specs.declared.Written.the-variants as written
+use Rattle.page_sheets.specs.Sheet.{sayYes, sayNo, Answer, says, refusal}
+use Rattle.page_sheets.specs.Sheet as sheet
+use Rattle.page_sheets.specs.Answers.{wrote, unwritten, Done}
+use Rattle.page_sheets.specs.Answers as answers
+
+abbrev pub verdictOf : Verdict → sheet.Verdict
+verdictOf Yes = sayYes
+verdictOf No = sayNo
+
+abbrev pub judgedOf : Judged → Answer
+judgedOf (judged.Says v) = says (verdictOf v)
+judgedOf (judged.Refused n p) = refusal n p
+
+abbrev pub writtenOf : Written → answers.Written
+writtenOf (written.Sheet v n) = wrote (verdictOf v) n
+writtenOf (written.Refused n p) = unwritten n p
+
+-- and the room as it is then
+abbrev pub doneOf : Written → List ℕ → Done
+doneOf w room = record { answer = writtenOf w; room = room }

@@ -1,0 +1,17 @@
+// The answers: writer, checker and routines give them alike (specs/Told gives number and values for each case).
+pub enum Verdict {
+    Yes,
+    No,
+}
+
+// Of a verdict asked for, or a sheet checked: the verdict, or the number that says no and its place.
+pub enum Judged {
+    Says(Verdict),
+    Refused(u8, usize),
+}
+
+// Of a sheet asked for: the verdict, and how many bytes of the room the sheet takes; or number and place.
+pub enum Written {
+    Sheet(Verdict, usize),
+    Refused(u8, usize),
+}

@@ -1,0 +1,51 @@
+-- Programs worked out by computation: 01's KEY and CLIENT, K = Q and V ≥ 10, K and N visible; changes of KEY.
+use Prim.Native.Nat.{ℕ}
+use mathlib.Core.Path.{_≡_, refl}
+use mathlib.Core.Bool.{false}
+use mathlib.Core.Option.{some}
+use mathlib.Core.List.{List, [], _∷_}
+use lib.IntN.{ℤ, pos, negsuc}
+use Rattle.page_meaning.specs.Condition.{Condition, compare, both, equal, atLeast, constant, column}
+use Rattle.page_meaning.specs.Contents.{Question, Change, insert, modify, Mode, keep, shift, Range}
+use Rattle.page_formulas.specs.Program.{Instr, place, andI}
+use Rattle.page_formulas.specs.Compile.{compile}
+use Rattle.page_formulas.specs.Formulas.{firstSight, secondSight, among, after, boundedAll, C, moves, formulas}
+
+abbrev upTo : ℕ → Range
+upTo top = record { lo = pos 0; hi = pos top }
+
+abbrev asking : Change → Question
+asking ch = record {
+  front = [];
+  changed = upTo 9 ∷ upTo 30 ∷ [];
+  back = (upTo 9 ∷ upTo 9 ∷ []) ∷ [];
+  visible = 0 ∷ 2 ∷ [];
+  condition = compare equal 0 (column 3 (pos 0)) ∷ compare atLeast 1 (constant (pos 10)) ∷ both ∷ [];
+  change = ch;
+}
+
+-- left − right ≤ most
+abbrev at : ℕ → ℕ → ℤ → Instr
+at left right most = place (record { left = left; right = right; most = most })
+
+-- case a, insert (3,9): "two constants give an edge from 0 to itself"
+case-a : formulas (asking (insert ((pos 3 ∷ pos 9 ∷ []) ∷ []))) 1
+    ≡ record { ranges = some (upTo 9) ∷ some (upTo 30) ∷ some (upTo 9) ∷ some (upTo 9) ∷ []; pairs = false; program = at 0 4 (negsuc 2) ∷ at 4 0 (pos 3) ∷ andI ∷ at 0 0 (negsuc 0) ∷ andI ∷ [] } ∷ []
+unfolding compile after
+case-a = refl
+
+-- case j, V := V−8 where V ≥ 10: "its condition, then for each column not kept, in order, new ≤ hi and new ≥ lo"
+abbrev where10 : Condition
+where10 = compare atLeast 1 (constant (pos 10)) ∷ []
+
+abbrev less8 : List Mode
+less8 = keep ∷ shift 1 (negsuc 7) ∷ []
+
+case-j-M : moves (asking (modify where10 less8)) where10 less8 firstSight ≡ at 0 2 (negsuc 9) ∷ at 2 0 (pos 38) ∷ andI ∷ at 0 2 (negsuc 7) ∷ andI ∷ []
+unfolding compile boundedAll
+case-j-M = refl
+
+-- C of the second row: its hidden V and Q are vertices 6 and 8, its K is the first row's
+case-j-C2 : C (asking (modify where10 less8)) (secondSight (asking (modify where10 less8))) ≡ at 1 8 (pos 0) ∷ at 8 1 (pos 0) ∷ andI ∷ at 0 6 (negsuc 9) ∷ andI ∷ []
+unfolding compile among
+case-j-C2 = refl

@@ -1,0 +1,186 @@
+-- The trouble lists of 01 as programs over vertices: "Formulas count from 0, parts in the order written."
+use Prim.Native.Nat.{ℕ, zero, suc, _+_}
+use mathlib.Core.Bool.{Bool, true, false, _||_, cond}
+use mathlib.Core.Option.{none, some}
+use mathlib.Core.List.{List, [], _∷_, _++_, map}
+use lib.ListN.{length, take, drop}
+use lib.Dec.{eqb}
+use lib.IntN.{ℤ, pos}
+use Rattle.page_meaning.specs.Condition.{Condition, atMost, atLeast, unequal}
+use Rattle.page_meaning.specs.Contents.{Question, Change, insert, delete, modify, Mode, keep, become, shift, Range, Table, columns, look, first}
+use Rattle.page_meaning.specs.Contents as M
+use Rattle.page_meaning.specs.Trouble.{modeAt, kept}
+use Rattle.page_formulas.specs.Program.{Program, Term, Values, andI, orI, falseI}
+use Rattle.page_formulas.specs.Compile.{Sight, comparison, constantTerm, plus}
+use Rattle.page_formulas.specs.Parts.{_and_, _or_, denied, conditionProgram}
+use Rattle.page_formulas.specs.Vertices.{Ranges}
+
+-- its vertices' ranges; whether it speaks of two rows; its program
+pub record Formula : Type 0 where
+  pub ranges : Ranges
+  pub pairs : Bool
+  pub program : Program
+
+-- ---- which term stands for a column
+
+abbrev pub vertex : ℕ → Term
+vertex v = record { vertex = v; offset = pos 0 }
+
+-- "1+i column i of the first row"
+abbrev pub firstSight : Sight
+firstSight i = vertex (suc i)
+
+-- is column i among those?
+unfoldable pub among : List ℕ → ℕ → Bool
+among [] i = false
+among (j ∷ js) i = eqb j i || among js i
+
+-- "1+n+i column i of the second where column i is hidden, n columns in all"; the rows "share their visible columns"
+abbrev pub secondSight : Question → Sight
+secondSight q i = vertex (cond (among (q .visible) i) (suc i) (suc (length (columns q) + i)))
+
+-- a new value, from the old row and the old value
+abbrev pub newTerm : Mode → Sight → Term → Term
+newTerm keep σ old = old
+newTerm (become k) σ old = constantTerm k
+newTerm (shift j k) σ old = plus (σ j) k
+
+-- "F is the modify applied to a full row"
+unfoldable pub after : Question → List Mode → Sight → Sight
+after q ms σ i = newTerm (modeAt q ms i) σ (σ i)
+
+-- ---- what its vertices range over
+
+-- "An insert keeps its changed table's vertices, with their ranges only": every column of the first row has its vertex
+abbrev pub firstRanges : List Range → Ranges
+firstRanges gs = map some gs
+
+-- the second row's hidden columns, from column i on
+unfoldable pub hiddenRanges : List ℕ → ℕ → List Range → Ranges
+hiddenRanges vs i [] = []
+hiddenRanges vs i (g ∷ gs) = cond (among vs i) none (some g) ∷ hiddenRanges vs (suc i) gs
+
+abbrev pub oneRow : Question → Program → Formula
+oneRow q p = record { ranges = firstRanges (columns q); pairs = false; program = p }
+
+abbrev pub bothRanges : Question → Ranges
+bothRanges q = firstRanges (columns q) ++ hiddenRanges (q .visible) 0 (columns q)
+
+abbrev pub twoRows : Question → Program → Formula
+twoRows q p = record { ranges = bothRanges q; pairs = true; program = p }
+
+-- ---- parts
+
+-- "new ≤ hi and new ≥ lo", each joined to what stands before it
+abbrev pub bounded : Term → Range → Program
+bounded t g = comparison atMost t (constantTerm (g .hi)) ++ (andI ∷ (comparison atLeast t (constantTerm (g .lo)) ++ (andI ∷ [])))
+
+abbrev pub boundedNew : Mode → Sight → Range → Program
+boundedNew keep σ g = []
+boundedNew (become k) σ g = bounded (constantTerm k) g
+boundedNew (shift j k) σ g = bounded (plus (σ j) k) g
+
+-- "for each column not kept, in order"
+unfoldable pub boundedAll : Sight → Table → List Mode → Program
+boundedAll σ [] ms = []
+boundedAll σ (g ∷ gs) [] = []
+boundedAll σ (g ∷ gs) (m ∷ ms) = boundedNew m σ g ++ boundedAll σ gs ms
+
+-- "some visible column not kept has new ≠ old, joined by or in column order (false if there is none)"
+abbrev pub differsNew : Mode → Term → Term → Program
+differsNew m a b = cond (kept m) [] (comparison unequal a b ++ (orI ∷ []))
+
+unfoldable pub differsOver : (ℕ → Mode) → Sight → Sight → List ℕ → Program
+differsOver mode σ τ [] = []
+differsOver mode σ τ (i ∷ is) = differsNew (mode i) (σ i) (τ i) ++ differsOver mode σ τ is
+
+abbrev pub differs : Question → List Mode → Sight → Sight → Program
+differs q ms σ τ = falseI ∷ differsOver (modeAt q ms) σ τ (q .visible)
+
+-- ---- the lists
+
+module _ (q : Question) where
+  abbrev pub C : Sight → Program
+  C σ = conditionProgram σ (q .condition)
+
+  -- "M: its condition, then for each column not kept, in order, new ≤ hi and new ≥ lo"
+  abbrev pub moves : Condition → List Mode → Sight → Program
+  moves d ms σ = conditionProgram σ d ++ boundedAll σ (q .changed) ms
+
+  -- "S = (not M) or C(F)"
+  abbrev pub S : Condition → List Mode → Sight → Program
+  S d ms σ = denied (moves d ms σ) or C (after q ms σ)
+
+  -- "Insert: for each row, C with that row's values put in"
+  abbrev pub inserted : List M.Values → List Formula
+  inserted new = map (λ n. oneRow q (C (after q (map become n) firstSight))) new
+
+  -- "M and not C and C(F)"
+  abbrev pub entering : Condition → List Mode → Formula
+  entering d ms = let σ = firstSight in oneRow q (moves d ms σ and denied (C σ) and C (after q ms σ))
+
+  -- "Asked 1 (irrelevant)"
+  abbrev pub irrelevance : Change → List Formula
+  irrelevance (insert new) = inserted new
+  irrelevance (delete d) = oneRow q (C firstSight and conditionProgram firstSight d) ∷ []
+  irrelevance (modify d ms) =
+      let σ = firstSight in
+      let F = after q ms σ in
+      oneRow q (moves d ms σ and C σ and denied (C F)) ∷ entering d ms ∷ oneRow q (moves d ms σ and C σ and C F and differs q ms F σ) ∷ []
+
+  -- "none if the list has one table"
+  abbrev pub unlessAlone : List Table → List Table → List Formula → List Formula
+  unlessAlone [] [] l = []
+  unlessAlone [] (t ∷ ts) l = l
+  unlessAlone (t ∷ ts) us l = l
+
+  -- "Asked 2 (computable)"
+  abbrev pub computability : Change → List Formula
+  computability (insert new) = unlessAlone (q .front) (q .back) (inserted new)
+  computability (delete d) =
+      let σ = firstSight in
+      let τ = secondSight q in
+      twoRows q (C σ and C τ and conditionProgram σ d and denied (conditionProgram τ d)) ∷ []
+  computability (modify d ms) =
+      let σ = firstSight in
+      let τ = secondSight q in
+      let F = after q ms σ in
+      let G = after q ms τ in
+      entering d ms
+      ∷ twoRows q (C σ and C τ and S d ms σ and denied (S d ms τ))
+      ∷ twoRows q (C σ and C τ and moves d ms σ and moves d ms τ and C F and C G and differs q ms F G)
+      ∷ twoRows q (C σ and C τ and moves d ms σ and denied (moves d ms τ) and C F and differs q ms F τ)
+      ∷ []
+
+  -- the formulas of the verdict asked for
+  abbrev pub formulas : ℕ → List Formula
+  formulas asked = cond (eqb asked 1) (irrelevance (q .change)) (computability (q .change))
+
+-- ---- rows and what stands for them
+
+-- rows as what vertices stand for; a one-row formula has no second row, []
+abbrev pub assign : M.Values → M.Values → Values
+assign u w = look (pos 0 ∷ (u ++ w))
+
+-- the first n values
+unfoldable pub tabulate : ℕ → (ℕ → ℤ) → M.Values
+tabulate zero f = []
+tabulate (suc n) f = f 0 ∷ tabulate n (λ i. f (suc i))
+
+-- and back: the rows that such values give
+abbrev pub rowBy : Question → Values → Sight → M.Values
+rowBy q ρ σ = tabulate (length (columns q)) (λ i. ρ (σ i .vertex))
+
+abbrev pub rowOf1 : Question → Values → M.Values
+rowOf1 q ρ = rowBy q ρ firstSight
+
+abbrev pub rowOf2 : Question → Values → M.Values
+rowOf2 q ρ = rowBy q ρ (secondSight q)
+
+-- "For insert, the changed table's values are the inserted row's"
+abbrev pub putIn : Question → M.Values → M.Values → M.Values
+putIn q new u = take (first q) u ++ (new ++ drop (length (q .changed)) (drop (first q) u))
+
+-- no formula: past the end of a list of them
+abbrev pub noFormula : Formula
+noFormula = record { ranges = []; pairs = false; program = [] }

@@ -1,0 +1,99 @@
+-- What a question that was read guarantees.
+use Prim.Native.Nat.{ℕ, zero, suc, _+_, _≤_, _<_}
+use mathlib.Core.Bool.{Bool, true, false}
+use mathlib.Core.List.{List, [], _∷_}
+use lib.Dec.{T}
+use lib.ListN.{length}
+use lib.IntN.{ℤ, negℤ}
+use lib.Signed.{_≤ℤ_}
+use Rattle.page_meaning.specs.Limits.{mostTables, mostColumns, mostTokens, mostComparisons, mostRows}
+use Rattle.page_meaning.specs.Condition.{Condition, Token, compare, both, either, negate, Side, constant, column}
+use Rattle.page_meaning.specs.Contents.{Range, Mode, keep, become, shift, Change, insert, delete, modify, Question, columns}
+use Rattle.page_meaning.specs.WellFormed.{WellFormed, Uses}
+use Rattle.page_questions.specs.Reader.{farthest, largest, comparisons}
+
+-- P holds of every element
+abbrev pub Every : {A : Type 0} → (A → Type 0) → List A → Type 0
+Every P [] = Unit {0}
+Every P (a ∷ l) = P a × Every P l
+
+-- "−1,000,000,000 ≤ lo ≤ hi ≤ 1,000,000,000"
+pub record RangeOk (g : Range) : Type 0 where
+  pub low : negℤ farthest ≤ℤ g .lo
+  pub ordered : g .lo ≤ℤ g .hi
+  pub high : g .hi ≤ℤ farthest
+
+-- "Constants lie in −2,000,000,000..2,000,000,000"
+pub record ConstantOk (k : ℤ) : Type 0 where
+  pub low : negℤ largest ≤ℤ k
+  pub high : k ≤ℤ largest
+
+abbrev pub SideOk : Side → Type 0
+SideOk (constant k) = ConstantOk k
+SideOk (column i k) = ConstantOk k
+
+abbrev pub TokenOk : Token → Type 0
+TokenOk (compare op i s) = SideOk s
+TokenOk both = Unit {0}
+TokenOk either = Unit {0}
+TokenOk negate = Unit {0}
+
+-- no token lacks an operand, and one value is left, from h values on
+unfoldable pub leavesOne : ℕ → Condition → Bool
+leavesOne zero [] = false
+leavesOne (suc zero) [] = true
+leavesOne (suc (suc h)) [] = false
+leavesOne h (compare op i s ∷ ts) = leavesOne (suc h) ts
+leavesOne zero (both ∷ ts) = false
+leavesOne (suc zero) (both ∷ ts) = false
+leavesOne (suc (suc h)) (both ∷ ts) = leavesOne (suc h) ts
+leavesOne zero (either ∷ ts) = false
+leavesOne (suc zero) (either ∷ ts) = false
+leavesOne (suc (suc h)) (either ∷ ts) = leavesOne (suc h) ts
+leavesOne zero (negate ∷ ts) = false
+leavesOne (suc h) (negate ∷ ts) = leavesOne (suc h) ts
+
+-- "no tokens means true"
+abbrev pub Shaped : Condition → Type 0
+Shaped [] = Unit {0}
+Shaped (t ∷ ts) = T (leavesOne 0 (t ∷ ts))
+
+-- "a postfix string of at most 16 tokens with at most 6 comparisons"
+pub record ConditionOk (c : Condition) : Type 0 where
+  pub shaped : Shaped c
+  pub fewTokens : length c ≤ mostTokens
+  pub fewComparisons : comparisons c ≤ mostComparisons
+  pub constants : Every TokenOk c
+
+abbrev pub ModeOk : Mode → Type 0
+ModeOk keep = Unit {0}
+ModeOk (become k) = ConstantOk k
+ModeOk (shift j k) = ConstantOk k
+
+abbrev pub ChangeAccepted : Change → Type 0
+ChangeAccepted (insert rows) = length rows ≤ mostRows
+ChangeAccepted (delete d) = ConditionOk d
+ChangeAccepted (modify d ms) = ConditionOk d × Every ModeOk ms
+
+-- columns in ascending order, each from low on and below high
+abbrev pub Ascending : ℕ → ℕ → List ℕ → Type 0
+Ascending low high [] = Unit {0}
+Ascending low high (i ∷ is) = (low ≤ i) × (i < high) × Ascending (suc i) high is
+
+pub record Accepted (q : Question) : Type 0 where
+  -- one mode a column of the changed table, the change's columns its own, inserted rows in range
+  pub wellFormed : WellFormed q
+  -- "1 to 4 tables, each with at least 1 column, at most 8 columns in all"
+  pub fewTables : length (q .front) + 1 + length (q .back) ≤ mostTables
+  pub eachFront : Every (λ t. 1 ≤ length t) (q .front)
+  pub changed : 1 ≤ length (q .changed)
+  pub eachBack : Every (λ t. 1 ≤ length t) (q .back)
+  pub fewColumns : length (columns q) ≤ mostColumns
+  pub ranges : Every RangeOk (columns q)
+  -- "At least one column is visible"
+  pub someVisible : 1 ≤ length (q .visible)
+  pub visible : Ascending 0 (length (columns q)) (q .visible)
+  -- C's columns exist
+  pub exist : Uses (λ i. i < length (columns q)) (q .condition)
+  pub condition : ConditionOk (q .condition)
+  pub change : ChangeAccepted (q .change)

@@ -1,0 +1,57 @@
+-- The columns that were read, laid out as tables: what a question consists of, from its parts.
+use Prim.Native.Nat.{ℕ, suc, _+_}
+use mathlib.Core.Bool.{Bool, true, false}
+use mathlib.Core.List.{List, [], _∷_, map}
+use lib.ListN.{getD, take, drop}
+use Rattle.page_meaning.specs.Condition.{Condition}
+use Rattle.page_meaning.specs.Contents.{Range, Table, Change, Question}
+
+-- "for each column lo i32, hi i32, visible 0 or 1"
+pub record Column : Type 0 where
+  pub range : Range
+  pub shown : Bool
+
+abbrev pub rangesOf : List Column → List Range
+rangesOf cs = map (λ c. c .range) cs
+
+-- how many columns some tables have, from "each table's column count"
+unfoldable pub total : List ℕ → ℕ
+total [] = 0
+total (w ∷ ws) = w + total ws
+
+-- the number of table t's first column: columns are "numbered from 0 in table order"
+abbrev pub firstOf : List ℕ → ℕ → ℕ
+firstOf ws t = total (take t ws)
+
+abbrev pub widthOf : List ℕ → ℕ → ℕ
+widthOf ws t = getD ws t 0
+
+-- columns cut into tables of the given widths
+unfoldable pub tablesOf : List ℕ → List Range → List Table
+tablesOf [] gs = []
+tablesOf (w ∷ ws) gs = take w gs ∷ tablesOf ws (drop w gs)
+
+-- the ranges of table t
+abbrev pub tableOf : List ℕ → ℕ → List Range → Table
+tableOf ws t gs = take (widthOf ws t) (drop (firstOf ws t) gs)
+
+-- the numbers of the visible columns, in column order, from number i on
+unfoldable pub visibleFrom : ℕ → List Column → List ℕ
+visibleFrom i [] = []
+visibleFrom i (c ∷ cs) = pick (c .shown) i (visibleFrom (suc i) cs)
+  where
+    pick : Bool → ℕ → List ℕ → List ℕ
+    pick true i is = i ∷ is
+    pick false i is = is
+
+-- a question: the widths of its tables, the changed table's number, its columns, its condition C and its change
+unfoldable pub questionFrom : List ℕ → ℕ → List Column → Condition → Change → Question
+questionFrom ws t cs c ch =
+    record {
+      front = tablesOf (take t ws) (rangesOf cs);
+      changed = tableOf ws t (rangesOf cs);
+      back = tablesOf (drop (suc t) ws) (drop (firstOf ws t + widthOf ws t) (rangesOf cs));
+      visible = visibleFrom 0 cs;
+      condition = c;
+      change = ch;
+    }

@@ -1,0 +1,278 @@
+-- The reader of 01: "Fields are read in order. Each is tested first for length, then for its value; the first fault is the answer,
+-- with the offset where that field starts." A suffix `from..` reads its field and all that follows.
+use Prim.Native.Nat.{ℕ, zero, suc, _+_, _-_, _*_}
+use mathlib.Core.Bool.{Bool, true, cond, _&&_}
+use mathlib.Core.List.{List, [], _∷_, _++_, foldl}
+use lib.Dec.{ltb, leb, eqb}
+use lib.ListN.{length, getD}
+use lib.IntN.{ℤ, pos, negℤ}
+use lib.Signed.{leZ}
+use Rattle.page_numbers.specs.Bytes.{int32}
+use Rattle.page_meaning.specs.Limits.{mostTables, mostColumns, mostTokens, mostComparisons, mostRows}
+use Rattle.page_meaning.specs.Condition.{Op, less, atMost, equal, atLeast, more, unequal, Side, constant, column, Token, compare, both, either, negate, Condition}
+use Rattle.page_meaning.specs.Contents.{Range, Mode, keep, become, shift, Values, Change, insert, delete, modify, Question}
+use Rattle.page_questions.specs.Layout.{Column, rangesOf, total, firstOf, tableOf, visibleFrom, questionFrom}
+
+-- ---- answers
+
+-- what was asked for, or a refusal: its number and its place
+pub data Outcome (A : Type 0) : Type 0 where
+  good : A → Outcome A
+  bad : ℕ → ℕ → Outcome A
+
+abbrev pub Read : Type 0
+Read = Outcome Question
+
+-- what some fields hold, and the offset after them
+pub record At (A : Type 0) : Type 0 where
+  pub value : A
+  pub next : ℕ
+
+abbrev pub found : {A : Type 0} → A → ℕ → Outcome (At A)
+found a p = good (record { value = a; next = p })
+
+-- "the first fault is the answer"
+abbrev pub andThen : {A B : Type 0} → Outcome (At A) → (A → ℕ → Outcome B) → Outcome B
+andThen (good a) f = f (a .value) (a .next)
+andThen (bad n p) f = bad n p
+
+-- k fields of one sort, each read with those before it in hand
+unfoldable pub many : {A : Type 0} → (List A → ℕ → Outcome (At A)) → ℕ → List A → ℕ → Outcome (At (List A))
+many f zero done p = found done p
+many f (suc k) done p = andThen (f done p) (λ a q. many f k (done ++ (a ∷ [])) q)
+
+-- ---- fields
+
+-- one byte at p from low on and below high, else the refusal n
+unfoldable pub byte : List ℕ → ℕ → ℕ → ℕ → ℕ → Outcome (At ℕ)
+byte s n low high p =
+    cond (ltb p (length s))
+    (cond (leb low (getD s p 0) && ltb (getD s p 0) high) (found (getD s p 0) (p + 1)) (bad n p))
+    (bad 1 p)
+
+-- an i32 at p, lo to hi, else the refusal n
+unfoldable pub int : List ℕ → ℕ → ℤ → ℤ → ℕ → Outcome (At ℤ)
+int s n lo hi p =
+    cond (leb (p + 4) (length s))
+    (cond (leZ lo (int32 s p) && leZ (int32 s p) hi) (found (int32 s p) (p + 4)) (bad n p))
+    (bad 1 p)
+
+-- the first number above the greatest allowed
+abbrev pub upTo : ℕ → ℕ
+upTo n = suc n
+
+-- "−1,000,000,000 ≤ lo ≤ hi ≤ 1,000,000,000"
+abbrev pub farthest : ℤ
+farthest = pos 1000000000
+
+-- "Constants lie in −2,000,000,000..2,000,000,000"
+abbrev pub largest : ℤ
+largest = pos 2000000000
+
+abbrev pub constantAt : List ℕ → ℕ → Outcome (At ℤ)
+constantAt s p = int s 5 (negℤ largest) largest p
+
+-- "255 for none"
+abbrev pub none : ℕ
+none = 255
+
+-- ---- columns
+
+-- a table's column count: "each with at least 1 column, at most 8 columns in all"
+abbrev pub widthAt : List ℕ → List ℕ → ℕ → Outcome (At ℕ)
+widthAt s ws p = byte s 4 1 (upTo (mostColumns - total ws)) p
+
+-- "for each column lo i32, hi i32, visible 0 or 1"
+unfoldable pub columnAt : List ℕ → ℕ → Outcome (At Column)
+columnAt s p =
+    andThen (int s 5 (negℤ farthest) farthest p) λ lo p.
+    andThen (int s 5 lo farthest p) λ hi p.
+    andThen (byte s 4 0 (upTo 1) p) λ v p.
+    found (record { range = record { lo = lo; hi = hi }; shown = eqb v 1 }) p
+
+-- ---- conditions; their columns are numbered from low on and below high
+
+-- "op (1 <, 2 ≤, 3 =, 4 ≥, 5 >, 6 ≠)"
+abbrev pub opOf : ℕ → Op
+opOf o =
+    cond (eqb o 1) less
+    (cond (eqb o 2) atMost
+    (cond (eqb o 3) equal
+    (cond (eqb o 4) atLeast
+    (cond (eqb o 5) more unequal))))
+
+-- "right column or 255 for none"
+abbrev pub rightAt : List ℕ → ℕ → ℕ → ℕ → Outcome (At ℕ)
+rightAt s low high p = cond (eqb (getD s p 0) none) (found none (p + 1)) (byte s 7 low high p)
+
+abbrev pub sideOf : ℕ → ℤ → Side
+sideOf r k = cond (eqb r none) (constant k) (column r k)
+
+-- "op, left column, right column or 255 for none, constant i32"
+unfoldable pub comparisonAt : List ℕ → ℕ → ℕ → ℕ → Outcome (At Token)
+comparisonAt s low high p =
+    andThen (byte s 6 1 (upTo 6) p) λ o p.
+    andThen (byte s 7 low high p) λ i p.
+    andThen (rightAt s low high p) λ r p.
+    andThen (constantAt s p) λ k p.
+    found (compare (opOf o) i (sideOf r k)) p
+
+-- how many values stand after a token, from h
+abbrev pub after : ℕ → Token → ℕ
+after h (compare op i s) = h + 1
+after h both = h - 1
+after h either = h - 1
+after h negate = h
+
+abbrev pub height : Condition → ℕ
+height ts = foldl after 0 ts
+
+abbrev pub counted : ℕ → Token → ℕ
+counted n (compare op i s) = n + 1
+counted n both = n
+counted n either = n
+counted n negate = n
+
+abbrev pub comparisons : Condition → ℕ
+comparisons ts = foldl counted 0 ts
+
+-- "a token lacks an operand": t needs n values
+abbrev pub needs : Condition → ℕ → Token → ℕ → Outcome (At Token)
+needs ts n t p = cond (leb n (height ts)) (found t (p + 1)) (bad 6 p)
+
+-- the token of number t at p, after the tokens ts: "a seventh comparison (at its token byte)"
+abbrev pub tokenOf : List ℕ → ℕ → ℕ → Condition → ℕ → ℕ → Outcome (At Token)
+tokenOf s low high ts p t =
+    cond (eqb t 1) (cond (ltb (comparisons ts) mostComparisons) (comparisonAt s low high (p + 1)) (bad 4 p))
+    (cond (eqb t 2) (needs ts 2 both p)
+    (cond (eqb t 3) (needs ts 2 either p)
+    (needs ts 1 negate p)))
+
+-- "Token 1 is a comparison .. Token 2 and, 3 or, 4 not"
+unfoldable pub tokenAt : List ℕ → ℕ → ℕ → Condition → ℕ → Outcome (At Token)
+tokenAt s low high ts p = andThen (byte s 6 1 (upTo 4) p) λ t q. tokenOf s low high ts p t
+
+-- "a nonempty condition doesn't end with one value"
+abbrev pub finished : Condition → Bool
+finished [] = true
+finished (t ∷ ts) = eqb (height (t ∷ ts)) 1
+
+-- "an unfinished condition after its last token .. with the next offset"
+abbrev pub finish : Condition → ℕ → Outcome (At Condition)
+finish ts p = cond (finished ts) (found ts p) (bad 6 p)
+
+-- "A condition: token count, tokens"
+unfoldable pub conditionAt : List ℕ → ℕ → ℕ → ℕ → Outcome (At Condition)
+conditionAt s low high p =
+    andThen (byte s 4 0 (upTo mostTokens) p) λ n p.
+    andThen (many (tokenAt s low high) n [] p) finish
+
+-- ---- changes; gs are the changed table's ranges, low is its first column's number
+
+-- a value after those before it, in its column's range
+abbrev pub valueAt : List ℕ → List Range → Values → ℕ → Outcome (At ℤ)
+valueAt s gs vs p = int s 5 (rangeAt .lo) (rangeAt .hi) p
+  where
+    rangeAt : Range
+    rangeAt = getD gs (length vs) (record { lo = pos 0; hi = pos 0 })
+
+unfoldable pub rowAt : List ℕ → List Range → ℕ → Outcome (At Values)
+rowAt s gs p = many (valueAt s gs) (length gs) [] p
+
+-- "Insert: row count, then each row's values i32"
+unfoldable pub insertAt : List ℕ → List Range → ℕ → Outcome (At Change)
+insertAt s gs p =
+    andThen (byte s 4 0 (upTo mostRows) p) λ n p.
+    andThen (many (λ rs p. rowAt s gs p) n [] p) λ rs p.
+    found (insert rs) p
+
+-- "Delete: a condition"
+unfoldable pub deleteAt : List ℕ → ℕ → ℕ → ℕ → Outcome (At Change)
+deleteAt s low high p = andThen (conditionAt s low high p) λ d p. found (delete d) p
+
+-- "column (255 unless mode 2)"
+abbrev pub noColumnAt : List ℕ → ℕ → Outcome (At ℕ)
+noColumnAt s p = byte s 4 none (upTo none) p
+
+-- "constant i32 (0 for keep)"
+abbrev pub keepAt : List ℕ → ℕ → Outcome (At Mode)
+keepAt s p = andThen (noColumnAt s p) λ j p. andThen (int s 4 (pos 0) (pos 0) p) λ k p. found keep p
+
+abbrev pub becomeAt : List ℕ → ℕ → Outcome (At Mode)
+becomeAt s p = andThen (noColumnAt s p) λ j p. andThen (constantAt s p) λ k p. found (become k) p
+
+abbrev pub shiftAt : List ℕ → ℕ → ℕ → ℕ → Outcome (At Mode)
+shiftAt s low high p = andThen (byte s 7 low high p) λ j p. andThen (constantAt s p) λ k p. found (shift j k) p
+
+-- "mode (0 keep, 1 constant, 2 column plus constant)"
+unfoldable pub modeAt : List ℕ → ℕ → ℕ → ℕ → Outcome (At Mode)
+modeAt s low high p =
+    andThen (byte s 4 0 (upTo 2) p) λ m p.
+    cond (eqb m 0) (keepAt s p) (cond (eqb m 1) (becomeAt s p) (shiftAt s low high p))
+
+-- "Modify: a condition, then for each column of the changed table mode, column, constant"
+unfoldable pub modifyAt : List ℕ → ℕ → ℕ → ℕ → Outcome (At Change)
+modifyAt s low width p =
+    andThen (conditionAt s low (low + width) p) λ d p.
+    andThen (many (λ ms p. modeAt s low (low + width) p) width [] p) λ ms p.
+    found (modify d ms) p
+
+-- "change kind (1 insert, 2 delete, 3 modify)"
+abbrev pub changeAt : List ℕ → ℕ → ℕ → List Range → ℕ → Outcome (At Change)
+changeAt s kind low gs p =
+    cond (eqb kind 1) (insertAt s gs p)
+    (cond (eqb kind 2) (deleteAt s low (low + length gs) p)
+    (modifyAt s low (length gs) p))
+
+-- ---- the whole, from the end
+
+-- "bytes after the end (offset of the first)"
+unfoldable pub ending : List ℕ → Question → ℕ → Read
+ending s q p = cond (ltb p (length s)) (bad 9 p) (good q)
+
+module _ (s : List ℕ) (kind changed : ℕ) (ws : List ℕ) where
+  unfoldable pub fromChange : List Column → Condition → ℕ → Read
+  fromChange cs c p =
+      andThen (changeAt s kind (firstOf ws changed) (tableOf ws changed (rangesOf cs)) p) λ ch p.
+      ending s (questionFrom ws changed cs c ch) p
+
+  unfoldable pub fromCondition : List Column → ℕ → Read
+  fromCondition cs p = andThen (conditionAt s 0 (total ws) p) λ c p. fromChange cs c p
+
+  -- ""None visible" is tested after the last column .. with the next offset"
+  unfoldable pub fromVisible : List Column → ℕ → Read
+  fromVisible cs p = seen (visibleFrom 0 cs)
+    where
+      seen : List ℕ → Read
+      seen [] = bad 8 p
+      seen (i ∷ is) = fromCondition cs p
+
+  unfoldable pub fromColumns : ℕ → Read
+  fromColumns p = andThen (many (λ cs p. columnAt s p) (total ws) [] p) λ cs p. fromVisible cs p
+
+-- "each table's column count"
+unfoldable pub fromWidths : List ℕ → ℕ → ℕ → ℕ → ℕ → Read
+fromWidths s tables kind changed p = andThen (many (widthAt s) tables [] p) λ ws p. fromColumns s kind changed ws p
+
+-- "changed table from 0"
+unfoldable pub fromChanged : List ℕ → ℕ → ℕ → ℕ → Read
+fromChanged s tables kind p = andThen (byte s 4 0 tables p) λ changed p. fromWidths s tables kind changed p
+
+-- "change kind (1 insert, 2 delete, 3 modify)"
+unfoldable pub fromKind : List ℕ → ℕ → ℕ → Read
+fromKind s tables p = andThen (byte s 4 1 (upTo 3) p) λ kind p. fromChanged s tables kind p
+
+-- "1 to 4 tables"
+unfoldable pub fromTables : List ℕ → ℕ → Read
+fromTables s p = andThen (byte s 4 1 (upTo mostTables) p) λ tables p. fromKind s tables p
+
+-- "version u16 = 1"
+unfoldable pub fromVersion : List ℕ → Read
+fromVersion s = cond (leb 5 (length s)) (cond (eqb (getD s 3 0 + 256 * getD s 4 0) 1) (fromTables s 5) (bad 3 3)) (bad 1 3)
+
+-- "the mark `VUQ` (one field)"
+abbrev pub marked : List ℕ → Bool
+marked s = eqb (getD s 0 0) 86 && eqb (getD s 1 0) 85 && eqb (getD s 2 0) 81
+
+unfoldable pub readOf : List ℕ → Read
+readOf s = cond (leb 3 (length s)) (cond (marked s) (fromVersion s) (bad 2 0)) (bad 1 0)

@@ -1,0 +1,133 @@
+-- The demands, proved.
+use Prim.Native.Nat.{ℕ, _-_, _≤_}
+use mathlib.Core.Path.{_≡_, refl, sym, ap, _∙_}
+use mathlib.Core.Logic.{inl, inr, _↔_}
+use mathlib.Core.Bool.{Bool, true, false, _||_, cond}
+use mathlib.Core.List.{List, _++_}
+use native.Mathlib.Omega.{arith}
+use lib.ListN.{length, take, replicate, length-append, length-replicate}
+use lib.Seq.{take-at}
+use lib.Dec.{T, eqb, leb, le→leb, leb→le}
+use Rattle.page_meaning.specs.Contents.{Question}
+use Rattle.page_formulas.specs.Formulas.{formulas}
+use Rattle.page_formulas.proofs.Proper.{formulas-proper}
+use Rattle.page_questions.specs.Accepted.{Accepted}
+use Rattle.page_questions.specs.Reader.{good, bad, Read, readOf}
+use Rattle.page_questions.proofs.Accepts.{accepted}
+use Rattle.page_sheets.specs.Answers.{askedOf, judge, verdictOf, checkFor, checkOf, wrote, unwritten, Done, placed, writeFor, writeOf}
+use Rattle.page_sheets.specs.Demands.{Exact, Askable, Meant, IrrelevantExact, ComputableExact, PassYesProves, PassNoBreaks, HasPassingSheet, NeverOpposite, WrittenPasses, Fixed, RoomFixed}
+use Rattle.page_sheets.specs.Sheet.{Verdict, sayYes, sayNo, says, verdictFor, findingOf, sheetOf, checkSheet}
+use Rattle.page_sheets.proofs.Fit.{fit-all, to-true}
+use Rattle.page_sheets.proofs.Passes.{Shown, passes-show}
+use Rattle.page_sheets.proofs.Sheets.{sheet-passes, yes-fails, fails-yes, fails-meant, shown-breaks, no-fails}
+
+-- ---- from the bytes to the question
+asked-reads : (a : ℕ) (s : List ℕ) → Askable a → askedOf a s ≡ readOf s
+asked-reads a s (inl e) = rw e refl
+asked-reads a s (inr e) = rw e refl
+
+reads-asked : (a : ℕ) (s : List ℕ) (q : Question) → askedOf a s ≡ good q → readOf s ≡ good q
+reads-asked a s q e = go (eqb a 1 || eqb a 2) e
+  where
+    go : (b : Bool) → cond b (readOf s) (bad 20 0) ≡ good q → readOf s ≡ good q
+    go true e = e
+    go false e = let z : _≡_ {A = ℕ} 0 1 = cc in absurd (omega arith)
+
+-- a sheet that passes is for a question that was read
+checked : (a : ℕ) (s sheet : List ℕ) (v : Verdict) → checkOf a s sheet ≡ says v → (q : Question) × (readOf s ≡ good q) × (checkSheet q a sheet ≡ says v)
+unfolding checkOf
+checked a s sheet v e = go (askedOf a s) refl e
+  where
+    go : (r : Read) → askedOf a s ≡ r → checkFor a sheet r ≡ says v → (q : Question) × (readOf s ≡ good q) × (checkSheet q a sheet ≡ says v)
+    go (good q) d e = (q, reads-asked a s q d, e)
+    go (bad n o) d e = let z : _≡_ {A = ℕ} 0 1 = cc in absurd (omega arith)
+
+verdict-is : (a : ℕ) (s : List ℕ) (q : Question) → Askable a → readOf s ≡ good q → verdictOf a s ≡ says (verdictFor (findingOf q a))
+unfolding verdictOf
+verdict-is a s q h e = ap (judge a) (asked-reads a s h ∙ e)
+
+check-is : (a : ℕ) (s sheet : List ℕ) (q : Question) → Askable a → readOf s ≡ good q → checkOf a s sheet ≡ checkSheet q a sheet
+unfolding checkOf
+check-is a s sheet q h e = ap (checkFor a sheet) (asked-reads a s h ∙ e)
+
+write-is : (a : ℕ) (s room : List ℕ) (q : Question) → Askable a → readOf s ≡ good q → writeOf a s room ≡ placed (verdictFor (findingOf q a)) (sheetOf q a) room
+unfolding writeOf
+write-is a s room q h e = ap (writeFor a room) (asked-reads a s h ∙ e)
+
+-- ---- demand 2
+exact : (a : ℕ) → Askable a → Exact a (Meant (eqb a 1))
+exact a h s q e =
+    let ok = accepted s q e in
+    let v = verdict-is a s q h e in
+    let m = fails-meant q ok a in
+    let yes-is : (verdictOf a s ≡ says sayYes) ↔ Meant (eqb a 1) q = (λ d. m .0 (yes-fails q ok a (cc)), λ t. v ∙ ap says (fails-yes q ok a (m .1 t))) in
+    (yes-is, (λ d t. opposite (sym d ∙ yes-is .1 t), λ f. v ∙ no-case (verdictFor (findingOf q a)) (λ d. f (yes-is .0 (v ∙ ap says d)))))
+  where
+    opposite : says sayNo ≡ says sayYes → ⊥
+    opposite e = let z : _≡_ {A = ℕ} 0 1 = cc in omega arith
+
+    no-case : (v : Verdict) → ¬ (v ≡ sayYes) → says v ≡ says sayNo
+    no-case sayYes f = absurd (f refl)
+    no-case sayNo f = refl
+
+pub irrelevant-exact : IrrelevantExact
+irrelevant-exact = exact 1 (inl refl)
+
+pub computable-exact : ComputableExact
+computable-exact = exact 2 (inr refl)
+
+-- ---- demand 3
+shown : (a : ℕ) (s sheet : List ℕ) (v : Verdict) → checkOf a s sheet ≡ says v → (q : Question) × (readOf s ≡ good q) × Accepted q × Shown q a sheet v
+shown a s sheet v e = let c = checked a s sheet v e in let ok = accepted s (c .0) (c .1) in (c .0, c .1, ok, passes-show (c .0) a sheet v (fit-all (formulas (c .0) a) (formulas-proper (c .0) ok a)) (c .2))
+
+pub pass-yes-proves : PassYesProves
+pass-yes-proves a s sheet e = let r = shown a s sheet sayYes e in (r .0, r .1, fails-meant (r .0) (r .2) a .0 (r .3))
+
+pub pass-no-breaks : PassNoBreaks
+pass-no-breaks a s sheet e = let r = shown a s sheet sayNo e in (r .0, r .1, shown-breaks (r .0) (r .2) a sheet (r .3))
+
+pub has-passing-sheet : HasPassingSheet
+has-passing-sheet a s q h e = (verdictFor (findingOf q a), sheetOf q a, verdict-is a s q h e, check-is a s (sheetOf q a) q h e ∙ sheet-passes q (accepted s q e) a)
+
+pub never-opposite : NeverOpposite
+never-opposite a s this that v w e d =
+    let x = shown a s this v e in
+    let y = shown a s that w d in
+    let same : x .0 ≡ y .0 = cc (x .1, y .1) in
+    go v w (x .3) (rw (← same) at (y .3))
+  where
+    q : Question
+    q = shown a s this v e .0
+
+    go : (v w : Verdict) → Shown q a this v → Shown q a that w → v ≡ w
+    go sayYes sayYes x y = refl
+    go sayYes sayNo x y = absurd (no-fails q (shown a s this v e .2) a that y x)
+    go sayNo sayYes x y = absurd (no-fails q (shown a s this v e .2) a this x y)
+    go sayNo sayNo x y = refl
+
+-- a sheet that passes tells the verdict
+pub verdict-by : (a : ℕ) (s sheet : List ℕ) (v : Verdict) → Askable a → checkOf a s sheet ≡ says v → verdictOf a s ≡ says v
+verdict-by a s sheet v h e =
+    let c = checked a s sheet v e in
+    let p = has-passing-sheet a s (c .0) h (c .1) in
+    p .2 ∙ ap says (never-opposite a s (p .1) sheet (p .0) v (p .3) e)
+
+pub written-passes : WrittenPasses
+written-passes a s q h e room l =
+    let v = verdictFor (findingOf q a) in
+    let t = to-true (leb (length (sheetOf q a)) (length room)) (le→leb (length (sheetOf q a)) (length room) l) in
+    let w : writeOf a s room ≡ record { answer = wrote v (length (sheetOf q a)); room = sheetOf q a ++ replicate (length room - length (sheetOf q a)) 0 } = write-is a s room q h e ∙ rw t refl in
+    (v, ap (λ d. d .answer) w, verdict-is a s q h e, ap (λ d. checkOf a s (take (length (sheetOf q a)) (d .room))) w ∙ ap (checkOf a s) (take-at (sheetOf q a) (replicate (length room - length (sheetOf q a)) 0) (length (sheetOf q a)) refl) ∙ check-is a s (sheetOf q a) q h e ∙ sheet-passes q (accepted s q e) a)
+
+-- ---- demand 1
+pub room-fixed : RoomFixed
+unfolding writeOf
+room-fixed a s room = go (askedOf a s) refl
+  where
+    put : (q : Question) → askedOf a s ≡ good q → (b : Bool) → (T b → length (sheetOf q a) ≤ length room) → (d : Done) → d ≡ cond b (record { answer = wrote (verdictFor (findingOf q a)) (length (sheetOf q a)); room = sheetOf q a ++ replicate (length room - length (sheetOf q a)) 0 }) (record { answer = unwritten 21 0; room = replicate (length room) 0 }) → Fixed a s room (d .answer) (d .room) × (length (d .room) ≡ length room)
+    put q e true l d f = rw f ((q, e, refl, refl), simp (length-append, length-replicate) (omega (arith, l tt)))
+    put q e false l d f = rw f (inr (refl, refl, refl), length-replicate (length room) 0)
+
+    go : (r : Read) → askedOf a s ≡ r → Fixed a s room (writeFor a room r .answer) (writeFor a room r .room) × (length (writeFor a room r .room) ≡ length room)
+    go (good q) e = put q e (leb (length (sheetOf q a)) (length room)) (λ t. leb→le (length (sheetOf q a)) (length room) t) (placed (verdictFor (findingOf q a)) (sheetOf q a) room) refl
+    go (bad n o) e = (inl (e, refl), refl)

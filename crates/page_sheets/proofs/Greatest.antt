@@ -1,0 +1,114 @@
+-- The values at an open leaf are the greatest: "its greatest solution, all columns at once".
+-- ---- the greatest values at an open leaf
+-- values in range that agree with the decisions meet the grid
+use Prim.Native.Nat.{ℕ, suc, _≤_, _<_}
+use mathlib.Core.Path.{_≡_, refl, sym, ap, _∙_}
+use mathlib.Core.Bool.{Bool, true, false, cond}
+use mathlib.Core.Option.{Option, none, some}
+use mathlib.Core.List.{List, [], _∷_, _++_, append-assoc}
+use native.Mathlib.Omega.{arith}
+use lib.ListN.{length, length-append}
+use lib.Dec.{T}
+use lib.IntN.{ℤ, pos, _+ℤ_}
+use lib.Signed.{_≤ℤ_}
+use Rattle.page_numbers.proofs.Bridge.{+law, ints}
+use Rattle.page_walks.specs.Grid.{Grid, weight}
+use Rattle.page_walks.specs.Search.{search, dist}
+use Rattle.page_walks.specs.Walk.{Sat}
+use Rattle.page_walks.proofs.Searches.{search-is, dist-greatest}
+use Rattle.page_formulas.specs.Formulas.{Formula}
+use Rattle.page_formulas.specs.Known.{Three, fails, passes, open?, known}
+use Rattle.page_formulas.specs.Program.{Values, test, Place, places}
+use Rattle.page_formulas.specs.Vertices.{InRange, Ranges, present}
+use Rattle.page_formulas.proofs.Knows.{Agrees, known-sure}
+use Rattle.page_formulas.specs.Proper.{SmallRange, SmallPlace}
+use Rattle.page_questions.specs.Accepted.{Every}
+use Rattle.page_sheets.specs.Facts.{start, decide}
+use Rattle.page_sheets.specs.Grow.{join, Growth, shut, openAt, atNode, grow, growTree}
+use Rattle.page_sheets.proofs.Fit.{Fit, present-below, in-range-small}
+use Rattle.page_sheets.proofs.Grows.{never-open}
+use Rattle.page_sheets.proofs.Holds.{InBounds, bounds-start, bounds-decide}
+use Rattle.page_sheets.proofs.Meets.{Meets, meets-start, meets-decide}
+use Rattle.page_sheets.proofs.Sound.{snoc-lengths}
+
+abbrev Met : Formula → Grid → List Bool → Type 0
+Met F g ds = (y : Values) → InRange (F .ranges) y → Agrees y (places (F .program)) ds → Meets (F .ranges) g y
+
+unsnoc : (y : Values) (done : List Place) (p : Place) (todo : List Place) (ds : List Bool) (d : Bool) → length done ≡ length ds → Agrees y (done ++ p ∷ todo) (ds ++ d ∷ []) → Agrees y (done ++ p ∷ todo) ds × (test y p ≡ d)
+unsnoc y [] p todo [] d l a = (tt, a .0)
+unsnoc y [] p todo (b ∷ ds) d l a = absurd (omega arith)
+unsnoc y (q ∷ done) p todo [] d l a = absurd (omega arith)
+unsnoc y (q ∷ done) p todo (b ∷ ds) d l a = let r = unsnoc y done p todo ds d (omega arith) (a .1) in ((a .0, r .0), r .1)
+
+-- 0 at the numbers that the formula lacks
+abbrev filled : Ranges → Values → Values
+filled rs y v = cond (present rs v) (y v) (pos 0)
+
+module _ (n : ℕ) (F : Formula) where
+  filled-sat : (g : Grid) (y : Values) → InBounds (suc n) (F .ranges) g → Every SmallRange (F .ranges) → InRange (F .ranges) y → Meets (F .ranges) g y → Sat (weight g) (suc n) (filled (F .ranges) y)
+  unfolding Sat
+  filled-sat g y b a h m u v hu hv = go (present (F .ranges) u) (present (F .ranges) v) (λ t. t) (λ t. t) (λ t. t) (λ t. t)
+    where
+      w : ℤ
+      w = weight g u v
+
+      go : (p q : Bool) → (T p → T (present (F .ranges) u)) → (T (present (F .ranges) u) → T p) → (T q → T (present (F .ranges) v)) → (T (present (F .ranges) v) → T q) → cond q (y v) (pos 0) ≤ℤ (cond p (y u) (pos 0) +ℤ w)
+      go true true f f′ k k′ = m u v (f tt) (k tt)
+      go true false f f′ k k′ = omega (ints, b .no-way-in u v k′, in-range-small (F .ranges) y h a u (f tt), +law (y u) w)
+      go false true f f′ k k′ = omega (ints, b .no-way-out u v f′, in-range-small (F .ranges) y h a v (k tt), +law (pos 0) w)
+      go false false f f′ k k′ = omega (ints, b .no-way-out u v f′, +law (pos 0) w)
+
+  filled-at : (y : Values) (v : ℕ) → T (present (F .ranges) v) → filled (F .ranges) y v ≡ y v
+  filled-at y v t = go (present (F .ranges) v) t
+    where
+      go : (b : Bool) → T b → cond b (y v) (pos 0) ≡ y v
+      go true t = refl
+      go false t = absurd t
+
+  -- x is the greatest of the values in range that agree with some decisions by which the formula is true
+  pub record GreatestLeaf (x : Values) : Type 0 where
+    pub decisions : List Bool
+    pub true-by : known (F .program) decisions ≡ passes
+    pub most : (y : Values) → InRange (F .ranges) y → Agrees y (places (F .program)) decisions → (v : ℕ) → T (present (F .ranges) v) → y v ≤ℤ x v
+
+  abbrev Best : Growth → Type 0
+  Best (shut t) = Unit {0}
+  Best (openAt x) = GreatestLeaf x
+
+  join-best : (t f : Growth) → Best t → Best f → Best (join t f)
+  join-best (openAt x) f h k = h
+  join-best (shut t) (openAt x) h k = k
+  join-best (shut t) (shut f) h k = tt
+
+  open-best : (ds : List Bool) (g : Grid) → length (F .ranges) < suc n → Every SmallRange (F .ranges) → InBounds (suc n) (F .ranges) g → Met F g ds → known (F .program) ds ≡ passes → search (weight g) n ≡ none → GreatestLeaf (dist (weight g) n)
+  open-best ds g l a b m e d =
+      let r = dist-greatest (weight g) n (rw d at (search-is (weight g) n)) in
+      record {
+        decisions = ds;
+        true-by = e;
+        most = λ y h k v t. rw (filled-at y v t) at (r .most (filled (F .ranges) y) (h .at-zero) (filled-sat g y b a h (m y h k)) v (omega (arith, present-below (F .ranges) v t)));
+      }
+
+  node-best : (ds : List Bool) (g : Grid) → length (F .ranges) < suc n → Every SmallRange (F .ranges) → InBounds (suc n) (F .ranges) g → Met F g ds → (k : Three) → known (F .program) ds ≡ k → (s : Option (List ℕ)) → search (weight g) n ≡ s → (r : Growth) → (k ≡ open? → Best r) → Best (atNode k s (dist (weight g) n) r)
+  node-best ds g l a b m fails e s d r h = tt
+  node-best ds g l a b m passes e (some c) d r h = tt
+  node-best ds g l a b m passes e none d r h = open-best ds g l a b m e d
+  node-best ds g l a b m open? e (some c) d r h = tt
+  node-best ds g l a b m open? e none d r h = h refl
+
+  grow-best : (todo done : List Place) (ds : List Bool) (g : Grid) → places (F .program) ≡ done ++ todo → length done ≡ length ds → length (F .ranges) < suc n → Every SmallRange (F .ranges) → Every (SmallPlace (F .ranges)) todo → InBounds (suc n) (F .ranges) g → Met F g ds → Best (grow n F todo ds g)
+  unfolding grow
+  grow-best [] done ds g e l h a s b m =
+      let all : length (places (F .program)) ≤ length ds = omega (arith, ap length e, length-append done []) in
+      node-best ds g h a b m (known (F .program) ds) refl (search (weight g) n) refl _ (λ o. absurd (never-open (known (F .program) ds) (known-sure (F .program) ds all) o))
+  grow-best (p ∷ todo) done ds g e l h a s b m =
+      node-best ds g h a b m (known (F .program) ds) refl (search (weight g) n) refl _
+      (λ o. join-best (grow n F todo (ds ++ true ∷ []) (decide g p true)) (grow n F todo (ds ++ false ∷ []) (decide g p false))
+      (grow-best todo (done ++ p ∷ []) (ds ++ true ∷ []) (decide g p true) (e ∙ sym (append-assoc done (p ∷ []) todo)) (snoc-lengths done p ds true l) h a (s .1) (bounds-decide (suc n) (F .ranges) g p true (s .0) b) (next true))
+      (grow-best todo (done ++ p ∷ []) (ds ++ false ∷ []) (decide g p false) (e ∙ sym (append-assoc done (p ∷ []) todo)) (snoc-lengths done p ds false l) h a (s .1) (bounds-decide (suc n) (F .ranges) g p false (s .0) b) (next false)))
+    where
+      next : (d : Bool) → Met F (decide g p d) (ds ++ d ∷ [])
+      next d y h k = let u = unsnoc y done p todo ds d l (rw e at k) in meets-decide (F .ranges) g y p d (m y h (rw e (u .0))) (u .1)
+
+  pub open-greatest : Fit (suc n) F → (x : Values) → growTree n F ≡ openAt x → GreatestLeaf x
+  open-greatest p x e = rw e at (grow-best (places (F .program)) [] [] (start (suc n) (F .ranges)) refl refl (p .some-vertex) (p .ranges-small) (p .places-small) (bounds-start (suc n) (F .ranges) (p .ranges-small)) (λ y h k. meets-start (suc n) (F .ranges) y h (p .ranges-small)))

@@ -1,0 +1,54 @@
+-- The answers of the three public routines, from the bytes (01, Numbers that say no).
+use Prim.Native.Nat.{ℕ, _-_}
+use mathlib.Core.Bool.{_||_, cond}
+use mathlib.Core.List.{List, _++_}
+use lib.ListN.{length, replicate}
+use lib.Dec.{eqb, leb}
+use Rattle.page_questions.specs.Reader.{Read, good, bad, readOf}
+use Rattle.page_sheets.specs.Sheet.{Verdict, Answer, says, refusal, verdictFor, findingOf, sheetOf, checkSheet}
+
+-- "Order: 20, then the question, then the sheet or the room"
+abbrev pub askedOf : ℕ → List ℕ → Read
+askedOf a s = cond (eqb a 1 || eqb a 2) (readOf s) (bad 20 0)
+
+abbrev pub judge : ℕ → Read → Answer
+judge a (good q) = says (verdictFor (findingOf q a))
+judge a (bad n o) = refusal n o
+
+-- verdict(asked, question)
+unfoldable pub verdictOf : ℕ → List ℕ → Answer
+verdictOf a s = judge a (askedOf a s)
+
+abbrev pub checkFor : ℕ → List ℕ → Read → Answer
+checkFor a sheet (good q) = checkSheet q a sheet
+checkFor a sheet (bad n o) = refusal n o
+
+-- check(asked, question, sheet)
+unfoldable pub checkOf : ℕ → List ℕ → List ℕ → Answer
+checkOf a s sheet = checkFor a sheet (askedOf a s)
+
+-- of a sheet asked for: the verdict and the sheet's length, or the number that says no and its place
+pub data Written : Type 0 where
+  wrote : Verdict → ℕ → Written
+  unwritten : ℕ → ℕ → Written
+
+-- the answer, and the room as it is then
+pub record Done : Type 0 where
+  pub answer : Written
+  pub room : List ℕ
+
+-- "On success the room holds the sheet, then zeros"; "21: the sheet is longer than the room"; "On 21 the room is all zero and no verdict is given"
+abbrev pub placed : Verdict → List ℕ → List ℕ → Done
+placed v sheet room =
+    cond (leb (length sheet) (length room))
+    (record { answer = wrote v (length sheet); room = sheet ++ replicate (length room - length sheet) 0 })
+    (record { answer = unwritten 21 0; room = replicate (length room) 0 })
+
+-- "Refusals 1 to 20 change nothing in the room"
+abbrev pub writeFor : ℕ → List ℕ → Read → Done
+writeFor a room (good q) = placed (verdictFor (findingOf q a)) (sheetOf q a) room
+writeFor a room (bad n o) = record { answer = unwritten n o; room = room }
+
+-- write(asked, question, room), from the room as it came
+unfoldable pub writeOf : ℕ → List ℕ → List ℕ → Done
+writeOf a s room = writeFor a room (askedOf a s)

@@ -1,0 +1,107 @@
+-- Whole sheets: what the writer writes and what the checker answers, for a question that was read (01, Bytes of a sheet, Numbers that say no).
+use Prim.Native.Nat.{ℕ, zero, suc, _+_, _*_}
+use mathlib.Core.Bool.{Bool, _&&_, cond}
+use mathlib.Core.List.{List, [], _∷_, _++_}
+use lib.ListN.{length, getD, drop}
+use lib.Dec.{eqb, leb, ltb}
+use lib.IntN.{ℤ}
+use Rattle.page_meaning.specs.Limits.{mostColumns, mostVertices}
+use Rattle.page_meaning.specs.Contents.{Question}
+use Rattle.page_formulas.specs.Program.{truth}
+use Rattle.page_formulas.specs.Formulas.{noFormula, Formula, formulas}
+use Rattle.page_sheets.specs.Tree.{Outcome, passed, refused}
+use Rattle.page_sheets.specs.Trees.{checkTrees, Finding, allShut, firstOpen, writeTrees, bytesAll}
+use Rattle.page_sheets.specs.Rows.{fields, fieldAt, valueAt, readValues, fieldOk, noBytes}
+
+-- the last vertex number: there are `mostVertices`
+abbrev pub lastVertex : ℕ
+lastVertex = 2 * mostColumns
+
+-- ---- answers
+
+pub data Verdict : Type 0 where
+  sayYes sayNo : Verdict
+
+-- "verdict (0 yes, 1 no)"
+abbrev pub verdictByte : Verdict → ℕ
+verdictByte sayYes = 0
+verdictByte sayNo = 1
+
+-- of a verdict asked for, or a sheet checked: the verdict, or the number that says no and its place
+pub data Answer : Type 0 where
+  says : Verdict → Answer
+  refusal : ℕ → ℕ → Answer
+
+-- ---- the sheet
+
+-- "Mark `VUS`; version u16 = 1; asked; verdict"
+abbrev pub header : ℕ → Verdict → List ℕ
+header a v = 86 ∷ 85 ∷ 83 ∷ 1 ∷ 0 ∷ a ∷ verdictByte v ∷ []
+
+abbrev pub sheetFor : Question → ℕ → Finding → List ℕ
+sheetFor q a (allShut ts) = header a sayYes ++ bytesAll ts
+sheetFor q a (firstOpen i F x) = header a sayNo ++ noBytes q i F x
+
+abbrev pub verdictFor : Finding → Verdict
+verdictFor (allShut ts) = sayYes
+verdictFor (firstOpen i F x) = sayNo
+
+-- what the writer finds for a question that was read
+unfoldable pub findingOf : Question → ℕ → Finding
+findingOf q a = writeTrees lastVertex (formulas q a)
+
+-- the writer's sheet
+unfoldable pub sheetOf : Question → ℕ → List ℕ
+sheetOf q a = sheetFor q a (findingOf q a)
+
+-- ---- the check of a sheet for a question that was read
+
+-- "Each is tested first for length, then for its value; the first fault is the answer, with the offset where that field starts":
+-- a field of so many bytes, is its value as said, the number that says no, and what the later fields come to
+abbrev pub field : List ℕ → ℕ → ℕ → Bool → ℕ → Answer → Answer
+field s at w ok number next = cond (leb (at + w) (length s)) (cond ok next (refusal number at)) (refusal 11 at)
+
+abbrev pub yesEnd : Outcome → Answer
+yesEnd (passed o []) = says sayYes
+yesEnd (passed o (b ∷ r)) = refusal 16 0
+yesEnd (refused n o) = refusal n o
+
+-- "Yes: one tree per formula"
+unfoldable pub checkYes : List Formula → List ℕ → Answer
+checkYes Fs s = yesEnd (checkTrees mostVertices Fs 7 (drop 7 s))
+
+-- the values from field j on, so many
+unfoldable pub checkFields : (ℕ → ℤ → Bool) → List ℕ → ℕ → ℕ → Answer → Answer
+checkFields ok s zero j next = next
+checkFields ok s (suc k) j next = let later = checkFields ok s k (suc j) next in field s (fieldAt j) 4 (ok j (valueAt s j)) 15 later
+
+-- "then a failing formula is 15 at offset 7, before 16"
+unfoldable pub noEnd : Question → Formula → List ℕ → Answer
+noEnd q F s = cond (truth (readValues q F s) (F .program)) (cond (leb (length s) (fieldAt (fields q F))) (says sayNo) (refusal 16 0)) (refusal 15 7)
+
+-- the fields from the first value on, for formula i
+unfoldable pub checkRows : Question → ℕ → Formula → List ℕ → Answer
+checkRows q i F s = checkFields (fieldOk q i s) s (fields q F) 0 (noEnd q F s)
+
+-- "No: the first open formula's number, then i32 values"; "The checker takes any formula that the rows meet"; "A formula number too high .. is 14"
+unfoldable pub checkNo : Question → List Formula → List ℕ → Answer
+checkNo q Fs s = let i = getD s 7 0 in field s 7 1 (ltb i (length Fs)) 14 (checkRows q i (getD Fs i noFormula) s)
+
+abbrev pub checkBody : Question → ℕ → List ℕ → ℕ → Answer
+checkBody q a s zero = checkYes (formulas q a) s
+checkBody q a s (suc v) = checkNo q (formulas q a) s
+
+-- "Mark `VUS`"; "version u16 = 1"
+abbrev pub marked : List ℕ → Bool
+marked s = eqb (getD s 0 0) 86 && eqb (getD s 1 0) 85 && eqb (getD s 2 0) 83
+
+abbrev pub versioned : List ℕ → Bool
+versioned s = eqb (getD s 3 0 + 256 * getD s 4 0) 1
+
+unfoldable pub checkSheet : Question → ℕ → List ℕ → Answer
+checkSheet q a s =
+    field s 0 3 (marked s) 12
+    (field s 3 2 (versioned s) 13
+    (field s 5 1 (eqb (getD s 5 0) a) 14
+    (field s 6 1 (leb (getD s 6 0) 1) 14
+    (checkBody q a s (getD s 6 0)))))

@@ -1,0 +1,90 @@
+-- Case trees, their bytes, and the check of a tree that is read (01, Bytes of a sheet).
+use Prim.Native.Nat.{ℕ, zero, suc}
+use mathlib.Core.Bool.{Bool, true, false, cond}
+use mathlib.Core.List.{List, [], _∷_, _++_}
+use lib.ListN.{length}
+use lib.Dec.{leb}
+use lib.IntN.{pos}
+use lib.Signed.{ltZ}
+use Rattle.page_walks.specs.Walk.{closed}
+use Rattle.page_walks.specs.Grid.{Grid, weight}
+use Rattle.page_formulas.specs.Program.{Place, places}
+use Rattle.page_formulas.specs.Known.{Three, fails, passes, open?, known}
+use Rattle.page_formulas.specs.Vertices.{Ranges, present}
+use Rattle.page_formulas.specs.Formulas.{Formula}
+use Rattle.page_sheets.specs.Facts.{start, decide}
+
+-- node 1, node 2 with its vertices, node 3 with the place taken as true, then as false
+pub data Tree : Type 0 where
+  falseLeaf : Tree
+  cycle : List ℕ → Tree
+  split : Tree → Tree → Tree
+
+-- "preorder"
+unfoldable pub bytesOf : Tree → List ℕ
+bytesOf falseLeaf = 1 ∷ []
+bytesOf (cycle c) = 2 ∷ length c ∷ c
+bytesOf (split t f) = 3 ∷ bytesOf t ++ bytesOf f
+
+-- passed: the offset after what was read, and the bytes from there on. refused: the number that says no, and its place
+pub data Outcome : Type 0 where
+  passed : ℕ → List ℕ → Outcome
+  refused : ℕ → ℕ → Outcome
+
+-- "The checker hands on the part of the sheet after each tree's end to the next tree's check"
+abbrev pub andThen : Outcome → (ℕ → List ℕ → Outcome) → Outcome
+andThen (passed o r) k = k o r
+andThen (refused n o) k = refused n o
+
+-- the vertices of a node 2, with what stands after them
+pub data Vertices : Type 0 where
+  got : List ℕ → ℕ → List ℕ → Vertices
+  lacking : ℕ → ℕ → Vertices
+
+abbrev pub more : ℕ → Vertices → Vertices
+more v (got c o r) = got (v ∷ c) o r
+more v (lacking n o) = lacking n o
+
+-- so many of them, each one byte: 11 where it runs past the end; "a vertex that the formula lacks, is 14"
+unfoldable pub vertices : Ranges → ℕ → ℕ → List ℕ → Vertices
+vertices rs zero at bs = got [] at bs
+vertices rs (suc n) at [] = lacking 11 at
+vertices rs (suc n) at (v ∷ bs) = let r = more v (vertices rs n (suc at) bs) in cond (present rs v) r (lacking 14 at)
+
+-- "Node 1: the formula is false by the ≤ places decided so far"; "a bad node is 15 at the node byte"
+abbrev pub falseNode : Three → ℕ → List ℕ → Outcome
+falseNode fails at bs = passed (suc at) bs
+falseNode passes at bs = refused 15 at
+falseNode open? at bs = refused 15 at
+
+-- "following the edges and back to the first gives a sum below zero", "tested after the node's last field"
+abbrev pub cycleEnd : Grid → ℕ → Vertices → Outcome
+cycleEnd g at (got c o r) = cond (ltZ (closed (weight g) c) (pos 0)) (passed o r) (refused 15 at)
+cycleEnd g at (lacking n o) = refused n o
+
+-- N: how many vertex numbers there are
+module _ (N : ℕ) (F : Formula) where
+  -- "Node 2, count 1 to 17, vertices"
+  abbrev pub cycleNode : Grid → ℕ → List ℕ → Outcome
+  cycleNode g at [] = refused 11 (suc at)
+  cycleNode g at (zero ∷ bs) = refused 14 (suc at)
+  cycleNode g at (suc n ∷ bs) = let r = cycleEnd g at (vertices (F .ranges) (suc n) (suc (suc at)) bs) in cond (leb (suc n) N) r (refused 14 (suc at))
+
+  -- a node at offset at, where ds were decided and g holds the facts; branch reads what follows the byte of a node 3
+  abbrev pub node : List Bool → Grid → ℕ → List ℕ → (List ℕ → Outcome) → Outcome
+  node ds g at [] branch = refused 11 at
+  node ds g at (zero ∷ bs) branch = refused 14 at
+  node ds g at (suc zero ∷ bs) branch = falseNode (known (F .program) ds) at bs
+  node ds g at (suc (suc zero) ∷ bs) branch = cycleNode g at bs
+  node ds g at (suc (suc (suc zero)) ∷ bs) branch = branch bs
+  node ds g at (suc (suc (suc (suc b))) ∷ bs) branch = refused 14 at
+
+  -- "Node 3: the first undecided place taken as true, then as false": by the places that are left, "any branch with a place left"
+  unfoldable pub check : List Place → List Bool → Grid → ℕ → List ℕ → Outcome
+  check [] ds g at bs = node ds g at bs (λ rest. refused 15 at)
+  check (p ∷ todo) ds g at bs =
+      node ds g at bs (λ rest. andThen (check todo (ds ++ true ∷ []) (decide g p true) (suc at) rest) (λ o r. check todo (ds ++ false ∷ []) (decide g p false) o r))
+
+  -- a formula's tree
+  abbrev pub checkTree : ℕ → List ℕ → Outcome
+  checkTree at bs = check (places (F .program)) [] (start N (F .ranges)) at bs

@@ -1,0 +1,4 @@
+pub mod Emits
+pub mod Weights
+pub mod Lends
+pub mod Ranges

@@ -1,0 +1,63 @@
+-- What a compiled program means, and what a step that builds it adds.
+use Prim.Native.Nat.{ℕ, _+_, _≤_}
+use mathlib.Core.Path.{_≡_}
+use mathlib.Core.List.{_++_, map}
+use lib.ListN.{length, take}
+use lib.IntN.{pos, negℤ}
+use lib.Signed.{_≤ℤ_}
+use Rattle.page_formulas.specs.Program as P
+use Rattle.program.specs.declared.types.Program.{Program}
+use Rattle.program.specs.declared.types.Joint.{Joint}
+use Rattle.program.specs.declared.types.Joint.the-variants.{And, Or, Not, True, False}
+use Rattle.program.specs.declared.types.Term.{Term}
+
+abbrev pub instrOf : Joint → P.Instr
+instrOf And = P.andI
+instrOf Or = P.orI
+instrOf Not = P.notI
+instrOf True = P.trueI
+instrOf False = P.falseI
+
+abbrev pub termOf : Term → P.Term
+termOf t = record { vertex = t .vertex; offset = t .offset }
+
+-- how many instructions and places a compiled program has room for
+abbrev pub mostInstructions : ℕ
+mostInstructions = 320
+
+abbrev pub mostPlaces : ℕ
+mostPlaces = 120
+
+-- so many instructions and places more fit
+pub record Room (p : Program) (n m : ℕ) : Type 0 where
+  pub instructions : p .count + n ≤ mostInstructions
+  pub places : p .places + m ≤ mostPlaces
+
+-- r is p with the instructions x after it
+pub record Emits (p r : Program) (x : P.Program) : Type 0 where
+  pub kinds : take (r .count) (r .kinds) ≡ take (p .count) (p .kinds) ++ P.kindsOf x
+  pub left : take (r .places) (r .left) ≡ take (p .places) (p .left) ++ map (λ a. a .left) (P.places x)
+  pub right : take (r .places) (r .right) ≡ take (p .places) (p .right) ++ map (λ a. a .right) (P.places x)
+  pub most : take (r .places) (r .most) ≡ take (p .places) (p .most) ++ map (λ a. a .most) (P.places x)
+  pub count : r .count ≡ p .count + length x
+  pub places : r .places ≡ p .places + length (P.places x)
+
+-- r is p with x after it, which is so many instructions and places at most
+pub record Builds (p r : Program) (n m : ℕ) (x : P.Program) : Type 0 where
+  pub emits : Emits p r x
+  pub few : r .count ≤ p .count + n
+  pub fewPlaces : r .places ≤ p .places + m
+
+-- an offset is at most a sum of two i32, so that weights are exact in i64
+pub record Near (t : Term) : Type 0 where
+  pub low : negℤ (pos 4294967296) ≤ℤ t .offset
+  pub high : t .offset ≤ℤ pos 4294967296
+
+-- it is compiled: its used fields are the program's
+pub record Means (r : Program) (x : P.Program) : Type 0 where
+  pub kinds : take (r .count) (r .kinds) ≡ P.kindsOf x
+  pub left : take (r .places) (r .left) ≡ map (λ a. a .left) (P.places x)
+  pub right : take (r .places) (r .right) ≡ map (λ a. a .right) (P.places x)
+  pub most : take (r .places) (r .most) ≡ map (λ a. a .most) (P.places x)
+  pub count : r .count ≡ length x
+  pub places : r .places ≡ length (P.places x)

@@ -1,0 +1,216 @@
+// The reader, field after field: each function reads its field and hands on to the next.
+ghost use Prim.Native.Nat.{_≤_, _<_};
+ghost use mathlib.Core.Path.{_≡_};
+ghost use mathlib.Core.List.{map};
+ghost use lib.ListN.{length, take};
+ghost use Rattle.page_meaning.specs.Limits.{mostTables, mostColumns, mostTokens};
+ghost use Rattle.page_questions.specs.Reader.{bad, ending, fromChange, fromCondition, fromVisible, fromColumns, fromWidths, fromChanged, fromKind, fromTables, fromVersion};
+ghost use Rattle.question.specs.Held.{Reads, ShapeHeld, ChangeHeld, questionOf, widthsOf, columnOf, conditionOf};
+use changes::change::change_at;
+use fields::fields::Byte;
+use fields::fields::byte_at;
+use question::limits::COLUMNS;
+use question::limits::PAST_TABLES;
+use question::limits::ROWS;
+use question::limits::TABLES;
+use question::types::Answer;
+use question::types::Change;
+use question::types::Column;
+use question::types::Condition;
+use question::types::Mode;
+use question::types::Question;
+use question::types::Reading;
+use question::types::Row;
+use question::types::Setting;
+use question::types::Shape;
+use question::types::Verb;
+use tables::columns::columns_at;
+use tables::columns::some_visible;
+use tables::widths::shape_of;
+use tables::widths::widths_at;
+use tokens::condition::always;
+use tokens::condition::condition_at;
+
+// A refusal: its question is blank.
+pub fn refusal(n: u8, at: usize) -> Reading
+    ensures { λ r. ⌜ Reads r (bad n at) ⌝ }
+{
+    Reading {
+        answer: Answer::Refused(n, at),
+        question: Question {
+            shape: Shape {
+                tables: 0,
+                changed: 0,
+                widths: [0usize; TABLES],
+                first: 0,
+                width: 0,
+                total: 0,
+            },
+            columns: [Column {
+                lo: 0,
+                hi: 0,
+                visible: false,
+            }; COLUMNS],
+            condition: always(),
+            change: Change {
+                verb: Verb::Insert,
+                rows: [Row {
+                    values: [0i32; COLUMNS],
+                }; ROWS],
+                count: 0,
+                condition: always(),
+                settings: [Setting { mode: Mode::Keep }; COLUMNS],
+            },
+        },
+    }
+}
+
+// No byte may follow the end.
+fn ended(
+    s: &[u8],
+    shape: Shape,
+    columns: [Column; COLUMNS],
+    condition: Condition,
+    change: Change,
+    p: usize,
+) -> Reading
+    requires { ⌜ ShapeHeld shape ⌝ }
+    requires { ⌜ condition .count ≤ mostTokens ⌝ }
+    requires { ⌜ ChangeHeld change ⌝ }
+    ensures { λ r. ⌜ Reads r (ending (now (s .entry)) (questionOf (record { shape = shape; columns = columns; condition = condition; change = change })) p) ⌝ }
+{
+    if p < s.len() {
+        return refusal(9, p);
+    }
+    Reading {
+        answer: Answer::Good,
+        question: Question {
+            shape: shape,
+            columns: columns,
+            condition: condition,
+            change: change,
+        },
+    }
+}
+
+fn from_change(
+    s: &[u8],
+    kind: u8,
+    shape: Shape,
+    columns: [Column; COLUMNS],
+    condition: Condition,
+    p: usize,
+) -> Reading
+    requires { ⌜ ShapeHeld shape ⌝ }
+    requires { ⌜ length columns ≡ mostColumns ⌝ }
+    requires { ⌜ condition .count ≤ mostTokens ⌝ }
+    ensures { λ r. ⌜ Reads r (fromChange (now (s .entry)) kind (shape .changed) (widthsOf shape) (map columnOf (take (shape .total) columns)) (conditionOf condition) p) ⌝ }
+{
+    let deed = change_at(s, kind, columns, shape.first, shape.width, p);
+    let answer = deed.answer;
+    let change = deed.change;
+    match answer {
+        Answer::Good => ended(s, shape, columns, condition, change, deed.next),
+        Answer::Refused(n, at) => refusal(n, at),
+    }
+}
+
+fn from_condition(s: &[u8], kind: u8, shape: Shape, columns: [Column; COLUMNS], p: usize) -> Reading
+    requires { ⌜ ShapeHeld shape ⌝ }
+    requires { ⌜ length columns ≡ mostColumns ⌝ }
+    ensures { λ r. ⌜ Reads r (fromCondition (now (s .entry)) kind (shape .changed) (widthsOf shape) (map columnOf (take (shape .total) columns)) p) ⌝ }
+{
+    let clause = condition_at(s, 0, shape.total, p);
+    let answer = clause.answer;
+    let condition = clause.condition;
+    match answer {
+        Answer::Good => from_change(s, kind, shape, columns, condition, clause.next),
+        Answer::Refused(n, at) => refusal(n, at),
+    }
+}
+
+fn from_visible(s: &[u8], kind: u8, shape: Shape, columns: [Column; COLUMNS], p: usize) -> Reading
+    requires { ⌜ ShapeHeld shape ⌝ }
+    requires { ⌜ length columns ≡ mostColumns ⌝ }
+    ensures { λ r. ⌜ Reads r (fromVisible (now (s .entry)) kind (shape .changed) (widthsOf shape) (map columnOf (take (shape .total) columns)) p) ⌝ }
+{
+    if some_visible(columns, shape.total) {
+        from_condition(s, kind, shape, columns, p)
+    } else {
+        refusal(8, p)
+    }
+}
+
+fn from_columns(s: &[u8], kind: u8, shape: Shape, p: usize) -> Reading
+    requires { ⌜ ShapeHeld shape ⌝ }
+    ensures { λ r. ⌜ Reads r (fromColumns (now (s .entry)) kind (shape .changed) (widthsOf shape) p) ⌝ }
+{
+    let pillars = columns_at(s, shape.total, p);
+    let answer = pillars.answer;
+    let columns = pillars.columns;
+    match answer {
+        Answer::Good => from_visible(s, kind, shape, columns, pillars.next),
+        Answer::Refused(n, at) => refusal(n, at),
+    }
+}
+
+fn from_widths(s: &[u8], tables: usize, kind: u8, changed: usize, p: usize) -> Reading
+    requires { ⌜ tables ≤ mostTables ⌝ }
+    requires { ⌜ changed < tables ⌝ }
+    ensures { λ r. ⌜ Reads r (fromWidths (now (s .entry)) tables kind changed p) ⌝ }
+{
+    let read = widths_at(s, tables, p);
+    let answer = read.answer;
+    let widths = read.widths;
+    match answer {
+        Answer::Good => {
+            let shape = shape_of(widths, tables, read.total, changed);
+            from_columns(s, kind, shape, read.next)
+        }
+        Answer::Refused(n, at) => refusal(n, at),
+    }
+}
+
+fn from_changed(s: &[u8], tables: usize, kind: u8, p: usize) -> Reading
+    requires { ⌜ tables ≤ mostTables ⌝ }
+    ensures { λ r. ⌜ Reads r (fromChanged (now (s .entry)) tables kind p) ⌝ }
+{
+    let b = byte_at(s, 4, 0, tables, p);
+    match b {
+        Byte::Is(changed, q) => from_widths(s, tables, kind, changed as usize, q),
+        Byte::Not(n, at) => refusal(n, at),
+    }
+}
+
+fn from_kind(s: &[u8], tables: usize, p: usize) -> Reading
+    requires { ⌜ tables ≤ mostTables ⌝ }
+    ensures { λ r. ⌜ Reads r (fromKind (now (s .entry)) tables p) ⌝ }
+{
+    let b = byte_at(s, 4, 1, 4, p);
+    match b {
+        Byte::Is(kind, q) => from_changed(s, tables, kind, q),
+        Byte::Not(n, at) => refusal(n, at),
+    }
+}
+
+fn from_tables(s: &[u8], p: usize) -> Reading
+    ensures { λ r. ⌜ Reads r (fromTables (now (s .entry)) p) ⌝ }
+{
+    let b = byte_at(s, 4, 1, PAST_TABLES, p);
+    match b {
+        Byte::Is(tables, q) => from_kind(s, tables as usize, q),
+        Byte::Not(n, at) => refusal(n, at),
+    }
+}
+
+pub fn from_version(s: &[u8]) -> Reading
+    ensures { λ r. ⌜ Reads r (fromVersion (now (s .entry))) ⌝ }
+{
+    if s.len() < 5 {
+        return refusal(1, 3);
+    }
+    if s[3] as usize + 256 * (s[4] as usize) != 1 {
+        return refusal(3, 3);
+    }
+    from_tables(s, 5)
+}

@@ -1,0 +1,138 @@
+-- The run over the kinds of the instructions, one at a time, on a stack kept in cells.
+use Prim.Native.Nat.{ℕ, zero, suc, _+_, _-_, _≤_, _<_}
+use mathlib.Core.Path.{_≡_, refl, sym, ap, ap₂, _∙_}
+use mathlib.Core.Bool.{Bool}
+use mathlib.Core.List.{List, [], _∷_, map}
+use native.Mathlib.Numerals.{add-one}
+use native.Mathlib.Omega.{arith}
+use lib.ListN.{length, getD, drop, set, drop-of-length-le}
+use lib.Seq.{drop-cons, getD-set-same, getD-set-other}
+use Rattle.truth.specs.declared.knowing.Truth.{Truth}
+use Rattle.truth.specs.declared.knowing.Truth.the-variants.{Fails}
+use Rattle.page_formulas.specs.Program.{two}
+use Rattle.page_formulas.specs.Known.{Three, fails, passes, open?, and3, or3, not3, next, later, kindStep, runKinds, top3, knownKinds}
+use Rattle.truth.specs.Cells.{threeOf, bit, stackOf, joinedBy, pushedBy}
+
+-- ---- what one kind makes
+
+pub joined-one : (k : ℕ) (a b : Three) → k ≡ 1 → joinedBy k a b ≡ and3 a b
+joined-one k a b e = rw e
+
+pub joined-other : (k : ℕ) (a b : Three) → ¬ (k ≡ 1) → joinedBy k a b ≡ or3 a b
+joined-other zero a b f = refl
+joined-other (suc zero) a b f = absurd (f refl)
+joined-other (suc (suc k)) a b f = refl
+
+pub pushed-place : (k : ℕ) (ts : List ℕ) (n : ℕ) → k ≡ 0 → pushedBy k ts n ≡ next (drop n (map bit ts))
+pushed-place k ts n e = rw e
+
+pub pushed-false : (k : ℕ) (ts : List ℕ) (n : ℕ) → ¬ (k ≡ 4) → ¬ (k ≡ 0) → pushedBy k ts n ≡ fails
+pushed-false zero ts n f g = absurd (g refl)
+pushed-false (suc zero) ts n f g = refl
+pushed-false (suc (suc zero)) ts n f g = refl
+pushed-false (suc (suc (suc zero))) ts n f g = refl
+pushed-false (suc (suc (suc (suc zero)))) ts n f g = absurd (f refl)
+pushed-false (suc (suc (suc (suc (suc k))))) ts n f g = refl
+
+-- ---- the next decision
+
+pub next-past : (ts : List ℕ) (n : ℕ) → length ts ≤ n → next (drop n (map bit ts)) ≡ open?
+next-past [] zero h = refl
+next-past [] (suc n) h = refl
+next-past (t ∷ ts) zero h = absurd (omega arith)
+next-past (t ∷ ts) (suc n) h = next-past ts n (omega arith)
+
+pub next-false : (ts : List ℕ) (n : ℕ) → n < length ts → getD ts n 0 ≡ 0 → next (drop n (map bit ts)) ≡ fails
+next-false [] n h e = absurd (omega arith)
+next-false (t ∷ ts) zero h e = rw e
+next-false (t ∷ ts) (suc n) h e = next-false ts n (omega arith) e
+
+pub next-true : (ts : List ℕ) (n : ℕ) → n < length ts → ¬ (getD ts n 0 ≡ 0) → next (drop n (map bit ts)) ≡ passes
+next-true [] n h f = absurd (omega arith)
+next-true (zero ∷ ts) zero h f = absurd (f refl)
+next-true (suc t ∷ ts) zero h f = refl
+next-true (t ∷ ts) (suc n) h f = next-true ts n (omega arith) f
+
+later-drop : (ds : List Bool) (n : ℕ) → later (drop n ds) ≡ drop (suc n) ds
+later-drop [] zero = refl
+later-drop [] (suc n) = refl
+later-drop (d ∷ ds) zero = refl
+later-drop (d ∷ ds) (suc n) = later-drop ds n
+
+-- ---- the stack in cells
+
+below : (cells : List Truth) (v : Truth) (i h : ℕ) → h ≤ i → stackOf (set cells i v) h ≡ stackOf cells h
+below cells v i zero l = refl
+below cells v i (suc h) l = ap₂ (λ a st. threeOf a ∷ st) (getD-set-other cells i h v Fails (omega arith)) (below cells v i h (omega arith))
+
+put : (cells : List Truth) (v : Truth) (h : ℕ) → h < length cells → stackOf (set cells h v) (suc h) ≡ threeOf v ∷ stackOf cells h
+put cells v h l = ap₂ (λ a st. threeOf a ∷ st) (getD-set-same cells h v Fails l) (below cells v h h (omega arith))
+
+-- ---- one turn: what the rest makes of the new stack is what it made of the old
+
+module _ (kinds truths : List ℕ) where
+  -- with n places passed, i instructions run and the stack st
+  unfoldable pub Rest : ℕ → ℕ → List Three → List Three
+  Rest n i st = runKinds (drop n (map bit truths)) (drop i kinds) st
+
+  module _ (i n : ℕ) (l : i < length kinds) where
+    -- the next kind's step, where it passes no place
+    stays : (k : ℕ) (st : List Three) → getD kinds i 0 ≡ k → 0 < k → Rest n (i + 1) (kindStep k (drop n (map bit truths)) st) ≡ Rest n i st
+    unfolding Rest runKinds
+    stays zero st e h = absurd (omega arith)
+    stays (suc k) st e h = rw (add-one, drop-cons kinds i 0 l, e)
+
+    passed : (st : List Three) → getD kinds i 0 ≡ 0 → Rest (n + 1) (i + 1) (next (drop n (map bit truths)) ∷ st) ≡ Rest n i st
+    unfolding Rest runKinds
+    passed st e = rw (add-one i, drop-cons kinds i 0 l, e, add-one n, ← later-drop (map bit truths) n)
+
+    module _ (cells : List Truth) where
+      pub rest-place : (h : ℕ) (v : Truth) → h < length cells → getD kinds i 0 ≡ 0 → threeOf v ≡ pushedBy (getD kinds i 0) truths n → Rest (n + 1) (i + 1) (stackOf (set cells h v) (h + 1)) ≡ Rest n i (stackOf cells h)
+      rest-place h v b e p = rw (add-one h, put cells v h b, p, pushed-place (getD kinds i 0) truths n e) (passed (stackOf cells h) e)
+
+      pub rest-constant : (h : ℕ) (v : Truth) → h < length cells → 4 ≤ getD kinds i 0 → threeOf v ≡ pushedBy (getD kinds i 0) truths n → Rest n (i + 1) (stackOf (set cells h v) (h + 1)) ≡ Rest n i (stackOf cells h)
+      rest-constant h v b e p = rw (add-one h, put cells v h b, p) (pick (getD kinds i 0) refl e)
+        where
+          pick : (k : ℕ) → getD kinds i 0 ≡ k → 4 ≤ k → Rest n (i + 1) (pushedBy k truths n ∷ stackOf cells h) ≡ Rest n i (stackOf cells h)
+          pick zero d g = absurd (omega arith)
+          pick (suc zero) d g = absurd (omega arith)
+          pick (suc (suc zero)) d g = absurd (omega arith)
+          pick (suc (suc (suc zero))) d g = absurd (omega arith)
+          pick (suc (suc (suc (suc zero)))) d g = stays 4 (stackOf cells h) d (omega arith)
+          pick (suc (suc (suc (suc (suc k))))) d g = stays (suc (suc (suc (suc (suc k))))) (stackOf cells h) d (omega arith)
+
+      pub rest-not : (h : ℕ) (v : Truth) → 1 ≤ h → h ≤ length cells → getD kinds i 0 ≡ 3 → threeOf v ≡ not3 (threeOf (getD cells (h - 1) Fails)) → Rest n (i + 1) (stackOf (set cells (h - 1) v) h) ≡ Rest n i (stackOf cells h)
+      rest-not zero v a b e p = absurd (omega arith)
+      rest-not (suc h) v a b e p = let d : suc h - 1 ≡ h = omega arith in rw (d, put cells v h b, rw d at p) (stays 3 (stackOf cells (suc h)) e (omega arith))
+
+      pub rest-not-empty : (h : ℕ) → h < 1 → getD kinds i 0 ≡ 3 → Rest n (i + 1) (stackOf cells h) ≡ Rest n i (stackOf cells h)
+      rest-not-empty zero b e = stays 3 [] e (omega arith)
+      rest-not-empty (suc h) b e = absurd (omega arith)
+
+      join-step : (k : ℕ) (st : List Three) → getD kinds i 0 ≡ k → ¬ (k ≡ 0) → k < 3 → Rest n (i + 1) (two (joinedBy k) st) ≡ Rest n i st
+      join-step zero st e f g = absurd (f refl)
+      join-step (suc zero) st e f g = stays 1 st e (omega arith)
+      join-step (suc (suc zero)) st e f g = stays 2 st e (omega arith)
+      join-step (suc (suc (suc k))) st e f g = absurd (omega arith)
+
+      pub rest-join : (h : ℕ) (v : Truth) → 2 ≤ h → h ≤ length cells → ¬ (getD kinds i 0 ≡ 0) → getD kinds i 0 < 3 → threeOf v ≡ joinedBy (getD kinds i 0) (threeOf (getD cells (h - 2) Fails)) (threeOf (getD cells (h - 1) Fails)) → Rest n (i + 1) (stackOf (set cells (h - 2) v) (h - 1)) ≡ Rest n i (stackOf cells h)
+      rest-join zero v a b f e p = absurd (omega arith)
+      rest-join (suc zero) v a b f e p = absurd (omega arith)
+      rest-join (suc (suc h)) v a b f e p =
+          let c : suc (suc h) - 2 ≡ h = omega arith in
+          let d : suc (suc h) - 1 ≡ suc h = omega arith in
+          rw (c, d, put cells v h (omega arith), rw (c, d) at p) (join-step (getD kinds i 0) (stackOf cells (suc (suc h))) refl f e)
+
+      pub rest-join-short : (h : ℕ) → h < 2 → ¬ (getD kinds i 0 ≡ 0) → getD kinds i 0 < 3 → Rest n (i + 1) (stackOf cells h) ≡ Rest n i (stackOf cells h)
+      rest-join-short zero b f e = join-step (getD kinds i 0) [] refl f e
+      rest-join-short (suc zero) b f e = join-step (getD kinds i 0) (stackOf cells 1) refl f e
+      rest-join-short (suc (suc h)) b f e = absurd (omega arith)
+
+pub stack-top : (cells : List Truth) (h : ℕ) → 0 < h → top3 (stackOf cells h) ≡ threeOf (getD cells (h - 1) Fails)
+stack-top cells zero l = absurd (omega arith)
+stack-top cells (suc h) l = let d : suc h - 1 ≡ h = omega arith in rw d
+
+-- with every instruction run the top of the stack is what is known
+pub rest-known : (kinds truths : List ℕ) (n i : ℕ) (st : List Three) → length kinds ≤ i → Rest kinds truths n i st ≡ Rest kinds truths 0 0 [] → (t : Three) → top3 st ≡ t → t ≡ knownKinds kinds (map bit truths)
+unfolding Rest runKinds
+rest-known kinds truths n i st l e t h = sym h ∙ ap top3 ((rw (drop-of-length-le kinds l) at e))

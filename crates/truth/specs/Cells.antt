@@ -1,0 +1,39 @@
+-- How the code keeps the three values: an enum, on a stack of cells; a decision is a byte.
+use Prim.Native.Nat.{ℕ, zero, suc}
+use mathlib.Core.Bool.{Bool, true, false}
+use mathlib.Core.List.{List, [], _∷_, map}
+use lib.ListN.{getD, drop}
+use Rattle.truth.specs.declared.knowing.Truth.{Truth}
+use Rattle.truth.specs.declared.knowing.Truth.the-variants.{Fails, Passes, Open}
+use Rattle.page_formulas.specs.Known.{Three, fails, passes, open?, and3, or3, next}
+
+-- the value that each case of the enum stands for
+abbrev pub threeOf : Truth → Three
+threeOf Fails = fails
+threeOf Passes = passes
+threeOf Open = open?
+
+-- a decision: 0 false, else true
+abbrev pub bit : ℕ → Bool
+bit zero = false
+bit (suc n) = true
+
+-- the stack that the first h cells hold, the last on top
+abbrev pub stackOf : List Truth → ℕ → List Three
+stackOf cells zero = []
+stackOf cells (suc h) = threeOf (getD cells h Fails) ∷ stackOf cells h
+
+-- what the kinds 1 and 2 make of two values
+abbrev pub joinedBy : ℕ → Three → Three → Three
+joinedBy zero a b = or3 a b
+joinedBy (suc zero) a b = and3 a b
+joinedBy (suc (suc n)) a b = or3 a b
+
+-- what the kinds 0, 4 and 5 push, with n places passed
+abbrev pub pushedBy : ℕ → List ℕ → ℕ → Three
+pushedBy zero truths n = next (drop n (map bit truths))
+pushedBy (suc zero) truths n = fails
+pushedBy (suc (suc zero)) truths n = fails
+pushedBy (suc (suc (suc zero))) truths n = fails
+pushedBy (suc (suc (suc (suc zero)))) truths n = passes
+pushedBy (suc (suc (suc (suc (suc k))))) truths n = fails

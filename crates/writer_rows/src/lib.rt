@@ -1,0 +1,2 @@
+// The rows of a no sheet.
+pub mod showing;

@@ -1,0 +1,131 @@
+-- Laws for the writer's recursion: a node is written, then one half and the other; the facts and their closure go down with each decision.
+use Prim.Native.Nat.{ℕ, suc, _≤_}
+use mathlib.Core.Path.{_≡_, refl, sym, ap, _∙_}
+use mathlib.Core.Bool.{Bool, true, false, cond, true≢false}
+use mathlib.Core.Option.{Option, none, some}
+use mathlib.Core.List.{List, [], _∷_}
+use native.Mathlib.Omega.{arith}
+use lib.Dec.{T, eqb, eqb→eq}
+use lib.ListN.{length, take}
+use lib.IntN.{ℤ, pos, negsuc, _+ℤ_}
+use lib.Signed.{_≤ℤ_, ltZ}
+use Rattle.page_numbers.specs.Numbers.{up, dn}
+use Rattle.page_numbers.proofs.Bridge.{ints, eq-out}
+use Rattle.page_numbers.proofs.Machine.{machine, lt-false}
+use mir.Syntax.{w64}
+use mir.Val.{SFits}
+use Rattle.page_walks.specs.Grid.{Grid, weight, tighten, tabled, far, farN, least-weight, Bounded, AllWithin}
+use Rattle.page_walks.specs.Near.{relax}
+use Rattle.cycles.specs.Found as Found
+use Rattle.cycles.specs.declared.Cycle.{Cycle}
+use Rattle.page_walks.proofs.Grids.{tighten-keeps, tighten-le, tighten-sized}
+use Rattle.page_walks.proofs.Rows.{tabled-sized}
+use Rattle.page_walks.proofs.Nears.{relax-closure, tightened, tabled-closure, near-small}
+use Rattle.page_formulas.specs.Formulas.{Formula}
+use Rattle.page_formulas.specs.Known.{Three, fails, passes, open?}
+use Rattle.page_sheets.specs.Fast.{strainedNode, cycleOf}
+use Rattle.page_sheets.specs.Tree.{bytesOf, cycle}
+use Rattle.page_sheets.specs.Grow.{Growth, shut, openAt, join}
+use Rattle.room.specs.Room.{Filling, filling, putOne, puts}
+use Rattle.writer_trees.specs.Growing.{Grows, Ready, cutBytes}
+use Rattle.grid.specs.Edges.{Fact, Kept}
+use Rattle.room.specs.declared.Spot.{Spot}
+use Rattle.writer_trees.specs.declared.growing.Grown.{Grown}
+use Rattle.page_sheets.proofs.Fasts.{Same}
+use Rattle.room.proofs.Puts.{puts-append, puts-length}
+
+-- ---- what is left by growths
+
+-- growths that are the same at the vertices leave the same
+pub grows-same : (last : ℕ) (F : Formula) (a b : Growth) → Same last F a b → (old : List ℕ) (s : Spot) (new : List ℕ) (r : Grown) → Grows last old s b new r → Grows last old s a new r
+grows-same last F (shut t) (shut t′) e old s new r g = (g .0, g .1 ∙ ap (λ x. puts (filling old s) (bytesOf x)) (sym e))
+grows-same last F (shut t) (openAt y) e old s new r g = absurd e
+grows-same last F (openAt x) (shut t′) e old s new r g = absurd e
+grows-same last F (openAt x) (openAt y) e old s new r g = (g .0, g .1, λ v h. g .2 v h ∙ sym (e v h))
+
+module _ (last : ℕ) (old mid : List ℕ) (s s₁ : Spot) (three : filling mid s₁ ≡ putOne (filling old s) 3) where
+  mid-length : length mid ≡ length old
+  unfolding puts
+  mid-length = ap (λ f. length (f .bytes)) three ∙ puts-length (filling old s) (3 ∷ [])
+
+  -- the first half is open, and so is the branch
+  pub grows-first : (a b : Growth) (new : List ℕ) (r : Grown) → r .open ≡ true → Grows last mid s₁ a new r → Grows last old s (join a b) new r
+  grows-first (shut t) b new r o g = absurd (true≢false (sym o ∙ g .0))
+  grows-first (openAt x) b new r o g = (g .0, g .1 ∙ mid-length, g .2)
+
+  -- the first half is shut: the second decides
+  pub grows-second : (a b : Growth) (mid₂ new : List ℕ) (r₁ r : Grown) → r₁ .open ≡ false → Grows last mid s₁ a mid₂ r₁ → Grows last mid₂ (r₁ .spot) b new r → Grows last old s (join a b) new r
+  unfolding bytesOf puts
+  grows-second (openAt x) b mid₂ new r₁ r o g h = absurd (true≢false (sym (g .0) ∙ o))
+  grows-second (shut t) (openAt x) mid₂ new r₁ r o g h = (h .0, h .1 ∙ ap (λ f. length (f .bytes)) (g .1) ∙ puts-length (filling mid s₁) (bytesOf t) ∙ mid-length, h .2)
+  grows-second (shut t) (shut u) mid₂ new r₁ r o g h =
+      (h .0, h .1 ∙ ap (λ f. puts f (bytesOf u)) (g .1 ∙ ap (λ f. puts f (bytesOf t)) three) ∙ sym (puts-append (putOne (filling old s) 3) (bytesOf t) (bytesOf u)))
+
+-- a kept grid is within the bounds of the search
+pub kept-within : (g : Grid) → Kept g → (n : ℕ) → AllWithin farN n g
+kept-within g k n = record { entry = λ u v hu hv. let c = k .ceiling u v in record { high = far-high (weight g u v) c; low = omega (arith, k .floor u v) } }
+  where
+    far-high : (z : ℤ) → z ≤ℤ far → up z ≤ farN
+    far-high (pos m) h = omega ints
+    far-high (negsuc m) h = omega arith
+
+-- ---- one more fact
+
+module _ (last from to : ℕ) (k : ℤ) (fact : Fact last from to k) where
+  pub fact-bounded : Bounded farN k
+  fact-bounded = record { high = omega (arith, fact .high); low = omega (arith, fact .low) }
+
+  pub fact-fits : SFits w64 k
+  fact-fits = omega (arith, machine, fact .high, fact .low)
+
+  pub kept-next : (g : Grid) → Kept g → Kept (tighten g from to k)
+  kept-next g kept = record {
+    sized = tighten-sized 17 g from to k (kept .sized);
+    ceiling = λ u v. omega (ints, tighten-le g from to k u v, kept .ceiling u v);
+    floor = λ u v. tighten-keeps (λ z. dn z ≤ least-weight) g from to k u v (kept .floor u v) (λ a b. fact .low);
+  }
+
+module _ (last : ℕ) (left right : List ℕ) (most : List ℤ) (g near : Grid) (ready : Ready last left right most g near) where
+  pub near-within : AllWithin farN (suc last) near
+  near-within = record { entry = λ u v hu hv. let b = near-small (suc last) (weight g) (weight near) (ready .kept .ceiling) (ready .closed) u v hu hv in record { high = b .0; low = b .1 } }
+
+  module _ (from to : ℕ) (k : ℤ) (fact : Fact last from to k) where
+    -- where it closes no negative cycle, its grid and the closure in a table are ready
+    pub ready-next : pos 0 ≤ℤ (weight near to from +ℤ k) → Ready last left right most (tighten g from to k) (tabled (relax (weight near) from to k) (suc last) near)
+    ready-next h =
+        let g₂ = tighten g from to k in
+        let few : suc last ≤ 17 = omega (arith, ready .few) in
+        let t = tightened 17 g from to k (ready .kept .sized) (omega (arith, ready .few, fact .from-is)) (omega (arith, ready .few, fact .to-is)) in
+        record {
+          few = ready .few;
+          as-long = ready .as-long;
+          facts = ready .facts;
+          closed = tabled-closure (suc last) 17 (weight g₂) (relax (weight near) from to k) near few (ready .table) (relax-closure (suc last) (weight g) (weight near) (ready .closed) from to k (fact .from-is) (fact .to-is) (weight g₂) t h);
+          kept = kept-next last from to k fact g (ready .kept);
+          table = tabled-sized (relax (weight near) from to k) 17 (suc last) near few (ready .table);
+        }
+
+    -- the same, as the code hands it on
+    pub ready-handed : (x : ℤ) (facts closer : Grid) → x ≡ weight near to from +ℤ k → facts ≡ tighten g from to k → closer ≡ tabled (relax (weight near) from to k) (suc last) near → ltZ x (pos 0) ≡ false → Ready last left right most facts closer
+    ready-handed x facts closer e i j t = rw (i, j) (ready-next (omega (ints, lt-false x (pos 0) t, eq-out e)))
+
+-- ---- a node whose facts close a negative cycle
+
+pub cut-false : (k : Three) (o : Option (List ℕ)) (f x : Filling) → k ≡ fails → x ≡ putOne f 1 → x ≡ puts f (cutBytes (strainedNode k o))
+unfolding puts bytesOf
+cut-false k o f x e h = rw e h
+
+pub cut-true : (k : Three) (o : Option (List ℕ)) (f x : Filling) → k ≡ passes → x ≡ puts f (bytesOf (cycle (cycleOf o))) → x ≡ puts f (cutBytes (strainedNode k o))
+cut-true k o f x e h = rw e h
+
+pub cut-open : (k : Three) (o : Option (List ℕ)) (f x : Filling) → k ≡ open? → x ≡ puts f (bytesOf (cycle (cycleOf o))) → x ≡ puts f (cutBytes (strainedNode k o))
+cut-open k o f x e h = rw e h
+
+-- the vertices that the search hands back are its cycle's
+pub found-list : (c : Cycle) (o : Option (List ℕ)) → Found.cycleOf c ≡ o → take (c .count) (c .vertices) ≡ cycleOf o
+unfolding Found.cycleOf
+found-list c o e = go (c .count) (c .vertices) (eqb (c .count) 0) (λ t. eqb→eq (c .count) 0 t) ∙ ap cycleOf e
+  where
+    go : (n : ℕ) (l : List ℕ) (b : Bool) → (T b → n ≡ 0) → take n l ≡ cycleOf (cond b none (some (take n l)))
+    go n l true f = rw (f tt)
+    go n l false f = refl

@@ -1,0 +1,4 @@
+pub mod Growths
+pub mod Halves
+pub mod Starts
+pub mod Plants

@@ -1,0 +1,59 @@
+-- What the writer's code holds at a node, and what it leaves there.
+use Prim.Native.Nat.{ℕ, suc, _≤_, _<_}
+use mathlib.Core.Path.{_≡_}
+use mathlib.Core.Bool.{Bool, true, false}
+use mathlib.Core.List.{List, [], map}
+use lib.ListN.{length, getD, take, drop}
+use lib.IntN.{ℤ, pos}
+use Rattle.page_numbers.specs.Numbers.{up}
+use Rattle.page_walks.specs.Grid.{Grid, weight, tighten, far, Sized}
+use Rattle.page_walks.specs.Near.{Closure}
+use Rattle.page_formulas.specs.Program.{Place, places}
+use Rattle.truth.specs.Cells.{bit}
+use Rattle.page_formulas.specs.Formulas.{Formula}
+use Rattle.program.specs.Lent.{placeAt}
+use Rattle.page_sheets.specs.Facts.{taken}
+use Rattle.page_sheets.specs.Fast.{after, half, fast}
+use Rattle.page_sheets.specs.Tree.{bytesOf}
+use Rattle.page_sheets.specs.Grow.{Growth, shut, openAt}
+use Rattle.room.specs.Room.{filling, puts}
+use Rattle.room.specs.declared.Spot.{Spot}
+use Rattle.writer_trees.specs.declared.growing.Grown.{Grown}
+use Rattle.grid.specs.Edges.{Fact, Kept}
+
+-- the decisions made so far, from their bytes
+abbrev pub decisions : List ℕ → ℕ → List Bool
+decisions truths decided = map bit (take decided truths)
+
+-- what a growth leaves in the room and in the answer: the tree's bytes; or the values at the vertices up to the last
+abbrev pub Grows : ℕ → List ℕ → Spot → Growth → List ℕ → Grown → Type 0
+Grows last old s (shut t) new r = (r .open ≡ false) × (filling new (r .spot) ≡ puts (filling old s) (bytesOf t))
+Grows last old s (openAt x) new r = (r .open ≡ true) × (length new ≡ length old) × ((v : ℕ) → v < suc last → getD (r .values) v (pos 0) ≡ x v)
+
+-- the bytes of a node that is shut
+abbrev pub cutBytes : Growth → List ℕ
+cutBytes (shut t) = bytesOf t
+cutBytes (openAt x) = []
+
+-- the rest of a formula's rule from a node on, where so many of its places are decided and no cycle is negative
+abbrev pub fastAt : ℕ → Formula → ℕ → List ℕ → Grid → Grid → Growth
+fastAt last F decided truths g near = fast last F (drop decided (places (F .program))) (decisions truths decided) g (weight near)
+
+-- half of a branch, from its fact: an edge of weight k
+abbrev pub sideBy : ℕ → Formula → ℕ → List ℕ → Grid → Grid → ℕ → ℕ → ℤ → Growth
+sideBy last F decided truths g near from to k =
+    let q : Place = record { left = to; right = from; most = k } in
+    let facts = tighten g from to k in
+    let ds = decisions truths decided in
+    half last F (weight near) q ds facts (fast last F (drop decided (places (F .program))) ds facts (after (weight near) q))
+
+-- ---- what the code must be given
+
+-- places between vertices up to the last, with small constants; a grid of such facts and its closure
+pub record Ready (last : ℕ) (left right : List ℕ) (most : List ℤ) (g near : Grid) : Type 0 where
+  pub few : last < 17
+  pub as-long : (length left ≡ length most) × (length right ≡ length most) × (length most ≤ 120)
+  pub facts : (i : ℕ) → i < length most → (d : Bool) → Fact last (taken (placeAt left right most i) d .right) (taken (placeAt left right most i) d .left) (taken (placeAt left right most i) d .most)
+  pub closed : Closure (suc last) (weight g) (weight near)
+  pub kept : Kept g
+  pub table : Sized 17 near

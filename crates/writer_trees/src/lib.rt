@@ -1,0 +1,4 @@
+// A formula's tree, by the writer's rule.
+pub mod growing;
+pub mod planting;
+mod starting;
