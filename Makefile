@@ -27,12 +27,12 @@ twelve:
 # The published examples of two reports: what the report says, and our verdicts, as irrelevant/computable.
 published:
 	rt check published
-	target/bin/published
+	target/bin/published < crates/published/stdin
 
-# The reader on one byte string for each number that says no, at several places: number and place, a line each.
+# The reader on byte strings for each number that says no, at several places: number and place, and what was changed.
 refusals:
 	rt check refusals
-	target/bin/refusals
+	target/bin/refusals < crates/refusals/stdin
 
 # The library for C and Rust: target/staticlib/libcapi.a, with include/slushtrowel.h.
 lib:

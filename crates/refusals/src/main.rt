@@ -1,143 +1,66 @@
-// Byte strings and their answers: each of the numbers 1 to 9 at several places. A line is the number and the place, or `good`.
-mod given;
-mod shown;
+// Byte strings and the reader's answers: each of the numbers 1 to 9 at several places, and strings that are good. Standard input has
+// the strings, as stdin here does: a line is what was changed, bytes in hexadecimal. A line is printed for each: number and place,
+// or `good`, and what was changed.
+use cases::Decoded;
+use libc::STDIN_FILENO;
+use printing::line_end;
+use printing::text;
+use printing::words;
+use question::types::Answer;
 
-use given::delete;
-use given::insert;
-use given::modify;
-use given::seven;
-use shown::show;
-use shown::with_byte;
-use shown::with_int;
-
-// The questions as they are, and the three refusals that 01 works out for case a.
-fn worked_out() {
-    show(insert(), 73);
-    show(delete(), 73);
-    show(modify(), 85);
-    show(insert(), 72);
-    show(insert(), 74);
-    show(with_int(insert(), 69, 31), 73);
+fn answer(bytes: &[u8]) {
+    let reading = reader::read(bytes);
+    let answer = reading.answer;
+    match answer {
+        Answer::Good => text(b"good"),
+        Answer::Refused(number, place) => words::refusal(number, place),
+    }
 }
 
-// 1: a field runs past the end; its length is tested before its value.
-fn too_short() {
-    show(insert(), 0);
-    show(with_byte(insert(), 0, 0), 2);
-    show(insert(), 3);
-    show(insert(), 5);
-    show(insert(), 9);
-    show(insert(), 13);
-    show(insert(), 17);
-    show(insert(), 18);
-    show(insert(), 46);
-    show(insert(), 47);
-    show(insert(), 50);
-    show(insert(), 54);
-    show(insert(), 64);
-    show(delete(), 67);
-    show(modify(), 73);
-    show(modify(), 80);
-    show(modify(), 84);
+// The answer to the first n bytes.
+fn answer_start(bytes: &[u8], n: usize) {
+    let start = 0;
+    if n <= bytes.len() {
+        answer(&bytes[start..n]);
+    }
 }
 
-// 2 and 3: the mark and the version.
-fn mark_and_version() {
-    show(with_byte(insert(), 0, 118), 73);
-    show(with_byte(insert(), 2, 83), 73);
-    show(with_byte(insert(), 3, 2), 73);
-    show(with_byte(insert(), 4, 1), 73);
+// No question has more than 269 bytes (docs/DECISIONS.md), and no string here is longer.
+fn read(digits: &[u8]) {
+    let mut room = [0u8; 272];
+    let decoded = cases::decode(digits, &mut room);
+    match decoded {
+        Decoded::Bytes(n) => answer_start(&room, n),
+        Decoded::Wrong => text(b"not hexadecimal"),
+    }
 }
 
-// 4: counts, kind, table and visible byte.
-fn counts() {
-    show(with_byte(insert(), 5, 0), 73);
-    show(with_byte(insert(), 5, 5), 73);
-    show(with_byte(insert(), 6, 0), 73);
-    show(with_byte(insert(), 6, 4), 73);
-    show(with_byte(insert(), 7, 2), 73);
-    show(with_byte(insert(), 8, 0), 73);
-    show(with_byte(insert(), 8, 9), 73);
-    show(with_byte(insert(), 9, 7), 73);
-    show(with_byte(insert(), 18, 2), 73);
-    show(with_byte(insert(), 46, 17), 73);
-    show(with_byte(insert(), 64, 5), 73);
-    show(with_byte(delete(), 64, 17), 73);
+fn line(line: &[u8]) {
+    if cases::is_case(line) {
+        let parting = cases::cut(line, b'\t');
+        let stop = parting.stop;
+        let next = parting.next;
+        read(&line[next..]);
+        text(b": ");
+        text(&line[..stop]);
+        line_end();
+    }
 }
 
-// 4: modes, the column byte of modes 0 and 1, keep's constant, a seventh comparison.
-fn modes() {
-    show(with_byte(modify(), 73, 3), 85);
-    show(with_byte(modify(), 74, 0), 85);
-    show(with_int(modify(), 75, 1), 85);
-    show(with_int(modify(), 75, 2147483647), 85);
-    show(with_byte(modify(), 79, 1), 85);
-    show(seven(), 103);
+fn lines(input: &[u8]) {
+    let mut at = 0;
+    while at < input.len() {
+        let rest = &input[at..];
+        let parting = cases::cut(rest, b'\n');
+        let stop = parting.stop;
+        line(&rest[..stop]);
+        at += parting.next;
+    }
 }
 
-// 5: numbers one past their ends, and at them.
-fn ranges() {
-    show(with_int(insert(), 10, -1000000001), 73);
-    show(with_int(insert(), 10, -1000000000), 73);
-    show(with_int(insert(), 10, 1000000001), 73);
-    show(with_int(insert(), 14, 1000000001), 73);
-    show(with_int(insert(), 14, 1000000000), 73);
-    show(with_int(insert(), 14, -1), 73);
-    show(with_int(insert(), 51, 2000000001), 73);
-    show(with_int(insert(), 51, 2000000000), 73);
-    show(with_int(insert(), 59, -2000000001), 73);
-    show(with_int(insert(), 59, -2000000000), 73);
-    show(with_int(insert(), 59, -2147483648), 73);
-    show(with_int(insert(), 65, 10), 73);
-    show(with_int(insert(), 65, -1), 73);
-    show(with_int(insert(), 69, 30), 73);
-    show(with_int(delete(), 69, 2147483647), 73);
-    show(with_int(modify(), 81, 2000000001), 85);
-}
-
-// 6: tokens, operators, operands, an unfinished condition (also where nothing follows).
-fn conditions() {
-    show(with_byte(insert(), 47, 0), 73);
-    show(with_byte(insert(), 47, 5), 73);
-    show(with_byte(insert(), 48, 0), 73);
-    show(with_byte(insert(), 56, 7), 73);
-    show(with_byte(insert(), 47, 4), 73);
-    show(with_byte(insert(), 55, 3), 73);
-    show(with_byte(insert(), 46, 2), 73);
-    show(with_byte(insert(), 46, 2), 63);
-    show(with_byte(delete(), 65, 2), 73);
-    show(with_byte(delete(), 66, 7), 73);
-}
-
-// 7: columns that don't exist, or are not of the changed table.
-fn columns() {
-    show(with_byte(insert(), 49, 4), 73);
-    show(with_byte(insert(), 49, 255), 73);
-    show(with_byte(insert(), 50, 4), 73);
-    show(with_byte(insert(), 58, 254), 73);
-    show(with_byte(delete(), 67, 2), 73);
-    show(with_byte(delete(), 68, 3), 73);
-    show(with_byte(modify(), 80, 2), 85);
-    show(with_byte(modify(), 80, 255), 85);
-}
-
-// 8: none visible, before the next field's length. 9: bytes after the end.
-fn last_tests() {
-    show(with_byte(with_byte(insert(), 18, 0), 36, 0), 73);
-    show(with_byte(with_byte(insert(), 18, 0), 36, 0), 46);
-    show(with_byte(insert(), 64, 0), 73);
-    show(delete(), 74);
-    show(modify(), 112);
-}
-
+// Of the input the first 65,536 bytes are read; the strings are a quarter as long.
 fn main() {
-    worked_out();
-    too_short();
-    mark_and_version();
-    counts();
-    modes();
-    ranges();
-    conditions();
-    columns();
-    last_tests();
+    let mut input = io::large_buffer();
+    let n = io::read_full(STDIN_FILENO, &mut input);
+    lines(&input[..n]);
 }

@@ -2,7 +2,7 @@
 
 use diff::compare::{accepted, brute, round, Tally};
 use diff::{library, on_promised_stack};
-use oracle::examples::{published, twelve};
+use oracle::examples::{published, twelve, unhex};
 use oracle::sample::{deepest, Chance};
 use oracle::sheet::work;
 use oracle::{encode, read, Question, Verdict};
@@ -82,19 +82,15 @@ fn the_deepest_tree() {
 
 #[test]
 fn recorded_answers() {
-    let hex = |text: &str| -> Vec<u8> {
-        let digit = |at: usize| u8::from_str_radix(&text[at..at + 2], 16).expect("hexadecimal");
-        (0..text.len()).step_by(2).map(digit).collect()
-    };
     for line in include_str!("../../vectors/ask.tsv").lines() {
         let columns: Vec<&str> = line.split('\t').collect();
-        let question = hex(columns[0]);
+        let question = unhex(columns[0]);
         if let Err(refusal) = read(&question) {
             assert_eq!(columns[1], format!("refused {} {}", refusal.number, refusal.place));
             assert_eq!(library::verdict(1, &question), Err(refusal));
             continue;
         }
-        for (asked, sheet) in [(1, hex(columns[2])), (2, hex(columns[3]))] {
+        for (asked, sheet) in [(1, unhex(columns[2])), (2, unhex(columns[3]))] {
             let mut room = vec![7; sheet.len()];
             let written = library::write(asked, &question, &mut room);
             assert_eq!(written.map(|(_, length)| length), Ok(sheet.len()));

@@ -1,5 +1,6 @@
 //! The programs on the recorded questions, as processes of their own.
 
+use oracle::examples::unhex;
 use std::io::Write;
 use std::path::{Path, PathBuf};
 use std::process::{Command, Stdio};
@@ -23,17 +24,12 @@ fn recorded() -> Vec<(Vec<u8>, String, [Vec<u8>; 2])> {
     let fields = |line: &str| line.split('\t').map(str::to_string).collect::<Vec<String>>();
     let row = |f: Vec<String>| {
         (
-            bytes(&f[0]),
+            unhex(&f[0]),
             f[1].replace('|', "\n") + "\n",
-            [2, 3].map(|at| f.get(at).map_or(vec![], |hex| bytes(hex))),
+            [2, 3].map(|at| f.get(at).filter(|hex| *hex != "-").map_or(vec![], |hex| unhex(hex))),
         )
     };
     text.lines().map(fields).map(row).collect()
-}
-
-fn bytes(hex: &str) -> Vec<u8> {
-    let pair = |at: usize| u8::from_str_radix(&hex[at..at + 2], 16).expect("hexadecimal");
-    (0..hex.len() / 2 * 2).step_by(2).map(pair).collect()
 }
 
 #[test]

@@ -1,6 +1,6 @@
 //! The published examples: our verdicts, and a second opinion on bytes, lengths and rows.
 
-use oracle::examples::{hex, load, published, Example};
+use oracle::examples::{cases, hex, load, published, Example};
 use oracle::sheet::work;
 use oracle::{check, encode, verdict, Verdict};
 
@@ -83,11 +83,24 @@ fn published_cycle() {
 #[test]
 fn the_notes_show_every_example() {
     let notes = include_str!("../../../docs/notes/published.md");
-    let (_, table) = notes.split_once("|---|---|---|---|---|\n").expect("a table");
+    let (_, table) = notes.split_once("|---|---|---|---|\n").expect("a table");
     let rows: Vec<&str> = table.lines().collect();
     let all = published();
     assert_eq!(rows.len(), all.len());
     for (row, example) in rows.iter().zip(&all) {
         assert_eq!(*row, example.row());
+    }
+}
+
+/// The program `published` reads the same examples, in an order of its own.
+#[test]
+fn the_program_reads_every_example() {
+    let mut lines = cases(include_str!("../../../crates/published/stdin"));
+    let mut ours: Vec<String> = published().iter().map(Example::line).collect();
+    lines.sort_unstable();
+    ours.sort_unstable();
+    assert_eq!(lines.len(), ours.len());
+    for (line, example) in lines.iter().zip(&ours) {
+        assert_eq!(line, example);
     }
 }

@@ -1,13 +1,9 @@
 //! Every recorded question, answer and sheet, byte for byte.
 
+use oracle::examples::{cases, unhex};
 use oracle::{check, read, verdict, write, Verdict};
 
 const VECTORS: &str = include_str!("../../vectors/ask.tsv");
-
-fn bytes(hex: &str) -> Vec<u8> {
-    let digit = |at: usize| u8::from_str_radix(&hex[at..at + 2], 16).expect("hexadecimal");
-    (0..hex.len()).step_by(2).map(digit).collect()
-}
 
 /// What the program `ask` prints, its lines joined by `|`.
 fn answer(question: &[u8]) -> String {
@@ -25,17 +21,36 @@ fn answer(question: &[u8]) -> String {
     format!("{}|{}", line("irrelevant", 1), line("computable", 2))
 }
 
+/// What the program `refusals` reads: a label and a string of bytes a line.
+const STRINGS: &str = include_str!("../../../crates/refusals/stdin");
+
+/// What it prints: the answer and the label.
+const ANSWERS: &str = include_str!("../../../crates/refusals/stdout");
+
+#[test]
+fn every_refusal() {
+    let answered = |line: &&str| {
+        let (label, hex) = line.split_once('\t').expect("a label");
+        match read(&unhex(hex)) {
+            Ok(_) => format!("good: {label}"),
+            Err(refusal) => format!("{} {}: {label}", refusal.number, refusal.place),
+        }
+    };
+    let answers: Vec<String> = cases(STRINGS).iter().map(answered).collect();
+    assert_eq!(answers, ANSWERS.lines().collect::<Vec<&str>>());
+}
+
 #[test]
 fn every_vector() {
     let lines: Vec<&str> = VECTORS.lines().collect();
     assert_eq!(lines.len(), 400);
     for (at, line) in lines.iter().enumerate() {
         let columns: Vec<&str> = line.split('\t').collect();
-        let question = bytes(columns[0]);
+        let question = unhex(columns[0]);
         assert_eq!(answer(&question), columns[1], "line {}", at + 1);
         for (asked, sheet) in [(1, columns[2]), (2, columns[3])] {
             if sheet != "-" {
-                let sheet = bytes(sheet);
+                let sheet = unhex(sheet);
                 let mut room = vec![7; sheet.len()];
                 let (said, length) = write(asked, &question, &mut room).expect("a sheet");
                 assert_eq!((length, &room), (sheet.len(), &sheet), "line {}", at + 1);

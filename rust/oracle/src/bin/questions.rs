@@ -1,7 +1,6 @@
-//! Prints the twelve cases, the shortcuts and the published examples, one a line: name, question, the report's
-//! verdicts, the right ones. The question is in hexadecimal, or with the word `bytes` as numbers with
-//! commas between, to be put into a program's text. With the word `table`: the published examples as
-//! the rows of a Markdown table.
+//! Prints the twelve cases, the shortcuts and the published examples, one a line: name, question in
+//! hexadecimal, the report's verdicts, the right ones. With the word `table`: the published examples as
+//! the rows of a Markdown table. With the word `lines`: as lines that the program `published` reads.
 
 use oracle::encode;
 use oracle::examples::{hex, published, shortcuts, twelve};
@@ -9,22 +8,20 @@ use oracle::examples::{hex, published, shortcuts, twelve};
 fn main() {
     let words: Vec<String> = std::env::args().skip(1).collect();
     let words: Vec<&str> = words.iter().map(String::as_str).collect();
-    let question: fn(&[u8]) -> String = match words[..] {
-        [] => hex,
-        ["bytes"] => numbers,
-        ["table"] => return published().iter().for_each(|example| println!("{}", example.row())),
+    match words[..] {
+        [] => all(),
+        ["table"] => published().iter().for_each(|example| println!("{}", example.row())),
+        ["lines"] => published().iter().for_each(|example| println!("{}", example.line())),
         _ => {
-            eprintln!("usage: questions [bytes | table]");
+            eprintln!("usage: questions [table | lines]");
             std::process::exit(2)
         }
-    };
-    for example in twelve().iter().chain(&shortcuts()).chain(&published()) {
-        let bytes = question(&encode(&example.question));
-        println!("{}\t{bytes}\t{}\t{}", example.name, example.report, example.right);
     }
 }
 
-fn numbers(bytes: &[u8]) -> String {
-    let bytes: Vec<String> = bytes.iter().map(u8::to_string).collect();
-    bytes.join(", ")
+fn all() {
+    for example in twelve().iter().chain(&shortcuts()).chain(&published()) {
+        let bytes = hex(&encode(&example.question));
+        println!("{}\t{bytes}\t{}\t{}", example.name, example.report, example.right);
+    }
 }

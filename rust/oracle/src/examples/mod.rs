@@ -44,13 +44,17 @@ impl Example {
         Example { why, ..self }
     }
 
-    /// The example as a row of a Markdown table: name, question, report, ours, why.
+    /// The example as a row of a Markdown table: name, report, ours, why.
     pub fn row(&self) -> String {
-        let question = hex(&encode(&self.question));
         let colon = if self.words.is_empty() { "" } else { ": " };
         let report = [self.words, colon, self.report].concat();
         let Example { name, right, why, .. } = self;
-        format!("| {name} | `{question}` | {report} | {right} | {why} |")
+        format!("| {name} | {report} | {right} | {why} |")
+    }
+
+    /// The example as a line that the program `published` reads: name, report, question.
+    pub fn line(&self) -> String {
+        [&self.name, self.report, &hex(&encode(&self.question))].join("\t")
     }
 
     /// Whether the report contradicts the right verdicts.
@@ -63,6 +67,17 @@ impl Example {
 /// Bytes in hexadecimal.
 pub fn hex(bytes: &[u8]) -> String {
     bytes.iter().map(|byte| format!("{byte:02x}")).collect()
+}
+
+/// Bytes from hexadecimal.
+pub fn unhex(text: &str) -> Vec<u8> {
+    let pair = |at: usize| u8::from_str_radix(&text[at..at + 2], 16).expect("hexadecimal");
+    (0..text.len()).step_by(2).map(pair).collect()
+}
+
+/// The cases of a text that a program reads: its lines but the empty ones and those that start with `#`.
+pub fn cases(text: &str) -> Vec<&str> {
+    text.lines().filter(|line| !line.is_empty() && !line.starts_with('#')).collect()
 }
 
 /// Every published example: the numbered ones of both reports, the insert of 000's conclusion, and
