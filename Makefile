@@ -1,15 +1,19 @@
 # The commands of the project. `make test` is the gate.
 SHELL := /bin/bash
 .SHELLFLAGS := -euo pipefail -c
-.PHONY: test programs run twelve published refusals lib soak bench fmt
+.PHONY: test house programs run twelve published refusals lib soak bench fmt
 
 cargo = cargo $(1) --quiet --offline --release --manifest-path rust/Cargo.toml
 
 # Layout; every proof, must-fail edit and program run, from nothing; then the tests in Rust, which call the proved library.
 # rt's count, the last line of `rt ci`, is said again at the end.
-test:
+test: house
 	rt fmt --check
 	log=$$(mktemp); trap 'rm -f "$$log"' EXIT; rt ci | tee "$$log"; $(MAKE) --no-print-directory lib; $(call cargo,test); tail -n 1 "$$log"
+
+# What a reader must believe stands in specs/: no definition there, and no contract, may be borrowed from a proof.
+house:
+	if grep -rnE 'use Rattle·[^ ]*proofs\.' crates/*/specs crates/*/src; then echo 'a definition is borrowed from a proof: move it to specs/'; exit 1; fi
 
 # The programs for people: target/bin/ask, write_sheet and check_sheet.
 programs:

@@ -9,8 +9,9 @@ use lib.Signed.{leZ}
 use lib.ListN.{length, getD, take, length-map, List·getD-map}
 use lib.Seq.{getD-take, length-take-le}
 use Rattle.truth.specs.Cells.{bit}
-use Rattle.page_formulas.specs.Program.{Values, Place, test, truth, places, nowhere}
-use Rattle.page_formulas.specs.Known.{Three, fails, passes, open?, known, knownKinds}
+use Rattle.page_formulas.specs.Program.{Values, Place, test, truth, places}
+use Rattle.page_formulas.specs.Kinds.{nowhere, knownKinds}
+use Rattle.page_formulas.specs.Known.{Three, fails, passes, open?, known}
 use Rattle.page_formulas.specs.Formulas.{Formula}
 use Rattle.page_formulas.proofs.Knows.{Agrees, Says, Sure, known-says, known-sure, known-kinds}
 use Rattle.program.specs.Lent.{Lent}

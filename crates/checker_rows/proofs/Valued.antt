@@ -13,7 +13,7 @@ use lib.Seq.{getD-set-same, getD-set-other}
 use mir.Syntax.{w32, w64}
 use mir.Val.{SFits}
 use Rattle.page_numbers.proofs.Machine.{machine, of-fits}
-use Rattle.page_walks.specs.Grid.{Bounded, least-weight}
+use Rattle.page_walks.specs.Sizes.{Bounded, least-weight}
 use Rattle.truth.specs.Cells.{bit}
 use Rattle.page_meaning.specs.Contents.{Question}
 use Rattle.page_formulas.specs.Formulas.{Formula, tabulate}

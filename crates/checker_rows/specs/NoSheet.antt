@@ -7,7 +7,7 @@ use lib.ListN.{length, getD}
 use lib.IntN.{ℤ, pos, _+ℤ_}
 use lib.Dec.{ltb}
 use lib.Signed.{leZ}
-use Rattle.page_walks.specs.Grid.{Bounded}
+use Rattle.page_walks.specs.Sizes.{Bounded}
 use Rattle.truth.specs.Cells.{bit}
 use Rattle.checker_rows.specs.declared.fields.Reading.{Reading}
 use Rattle.checker_rows.specs.declared.fields.Reading.the-variants.{All, Refused}

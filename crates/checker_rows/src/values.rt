@@ -7,7 +7,7 @@ ghost use lib.ListN.{length, getD};
 ghost use lib.IntN.{pos, _+ℤ_};
 ghost use lib.Signed.{leZ};
 ghost use Rattle.page_meaning.specs.Limits.{mostVertices};
-ghost use Rattle.page_walks.specs.Grid.{Bounded, least-weight};
+ghost use Rattle.page_walks.specs.Sizes.{Bounded, least-weight};
 ghost use Rattle.truth.specs.Cells.{bit};
 ghost use Rattle.page_formulas.specs.Program.{Values, truth};
 ghost use Rattle.page_formulas.specs.Formulas.{Formula};

@@ -11,8 +11,8 @@ use lib.IntN.{ℤ}
 use Rattle.page_meaning.specs.Limits.{mostVertices}
 use Rattle.page_walks.specs.Grid.{Grid}
 use Rattle.truth.specs.Cells.{bit}
-use Rattle.page_formulas.specs.Known.{knownKinds}
-use Rattle.page_formulas.specs.Program.{Place, places, kindsOf, nowhere}
+use Rattle.page_formulas.specs.Kinds.{knownKinds, kindsOf, nowhere}
+use Rattle.page_formulas.specs.Program.{Place, places}
 use Rattle.page_formulas.specs.Formulas.{Formula}
 use Rattle.page_formulas.proofs.Knows.{known-kinds}
 use Rattle.page_sheets.specs.Facts.{start, decide}

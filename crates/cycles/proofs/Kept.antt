@@ -9,7 +9,8 @@ use lib.ListN.{length, getD, set, length-set}
 use lib.Seq.{getD-set-same, getD-set-other}
 use lib.IntN.{ℤ, pos, _+ℤ_}
 use Rattle.page_meaning.specs.Limits.{mostVertices}
-use Rattle.page_walks.specs.Grid.{Grid, row, weight, far, farN, wide, RowWithin, AllWithin, Sized, filled, tabled}
+use Rattle.page_walks.specs.Grid.{Grid, row, weight, far, farN}
+use Rattle.page_walks.specs.Sizes.{wide, RowWithin, AllWithin, Sized, filled, tabled}
 use Rattle.page_walks.specs.Search.{least, best}
 use Rattle.cycles.specs.Found.{Ways}
 use Rattle.page_walks.proofs.Rows.{filled-length, filled-at, tabled-sized, tabled-at, read}

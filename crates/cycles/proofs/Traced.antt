@@ -10,7 +10,8 @@ use lib.IntN.{ℤ, pos, _+ℤ_}
 use lib.Signed.{_<ℤ_, ltZ}
 use Rattle.page_numbers.proofs.Bridge.{ints, +law}
 use Rattle.page_meaning.specs.Limits.{mostVertices}
-use Rattle.page_walks.specs.Grid.{Grid, row, weight, farN, Bounded, AllWithin, Sized}
+use Rattle.page_walks.specs.Grid.{Grid, row, weight, farN}
+use Rattle.page_walks.specs.Sizes.{Bounded, AllWithin, Sized}
 use Rattle.page_walks.specs.Search.{first, best, test, greedy}
 use Rattle.cycles.specs.Found.{Ways}
 use Rattle.page_walks.proofs.Searches.{step}

@@ -9,7 +9,8 @@ use lib.Dec.{eqb, ltb}
 use lib.IntN.{ℤ}
 use Rattle.cycles.specs.declared.Cycle.{Cycle}
 use Rattle.page_meaning.specs.Limits.{mostVertices}
-use Rattle.page_walks.specs.Grid.{Grid, weight, Sized}
+use Rattle.page_walks.specs.Grid.{Grid, weight}
+use Rattle.page_walks.specs.Sizes.{Sized}
 use Rattle.page_walks.specs.Search.{best, start, fewest}
 
 -- the list that a Cycle stands for: count 0 is none

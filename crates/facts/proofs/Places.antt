@@ -9,7 +9,8 @@ use lib.IntN.{ℤ, negsuc, negℤ}
 use Rattle.page_numbers.proofs.Bridge.{+up, +dn, neg-up, neg-dn}
 use Rattle.page_questions.specs.Accepted.{Every}
 use Rattle.page_formulas.specs.Formulas.{Formula}
-use Rattle.page_formulas.specs.Program.{Place, places, nowhere}
+use Rattle.page_formulas.specs.Program.{Place, places}
+use Rattle.page_formulas.specs.Kinds.{nowhere}
 use Rattle.page_formulas.specs.Proper.{Proper, SmallPlace}
 use Rattle.page_sheets.specs.Facts.{taken}
 use Rattle.page_sheets.proofs.Fit.{present-below}

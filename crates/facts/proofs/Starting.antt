@@ -14,7 +14,8 @@ use borrow.Author.Tests.{ltb-true, ltb-false}
 use Rattle.page_numbers.proofs.Bridge.{ints, neg-up, neg-dn}
 use Rattle.page_numbers.proofs.Machine.{diff}
 use Rattle.page_meaning.specs.Contents.{Range}
-use Rattle.page_walks.specs.Grid.{Grid, farN, least-weight, Bounded, AllWithin, blank}
+use Rattle.page_walks.specs.Grid.{Grid, farN, blank}
+use Rattle.page_walks.specs.Sizes.{least-weight, Bounded, AllWithin}
 use Rattle.page_walks.proofs.Grids.{tighten-keeps, blank-far}
 use Rattle.page_formulas.specs.Vertices.{Ranges, isSome}
 use Rattle.page_sheets.specs.Facts.{confine, confineAll}

@@ -4,7 +4,8 @@ use mathlib.Core.Bool.{Bool}
 use mathlib.Core.List.{List}
 use lib.IntN.{ℤ}
 use Rattle.page_meaning.specs.Limits.{mostVertices}
-use Rattle.page_walks.specs.Grid.{Grid, farN, AllWithin}
+use Rattle.page_walks.specs.Grid.{Grid, farN}
+use Rattle.page_walks.specs.Sizes.{AllWithin}
 use Rattle.page_formulas.specs.Vertices.{Ranges}
 use Rattle.page_sheets.specs.Facts.{start}
 use Rattle.program.specs.Compiled.{Spanned}

@@ -2,7 +2,8 @@
 ghost use mathlib.Core.Path.{_≡_};
 ghost use Prim.Native.Nat.{_<_};
 ghost use mathlib.Core.Option.{some};
-ghost use Rattle.page_walks.specs.Grid.{Bounded, farN};
+ghost use Rattle.page_walks.specs.Sizes.{Bounded};
+ghost use Rattle.page_walks.specs.Grid.{farN};
 ghost use Rattle.page_meaning.specs.Limits.{mostVertices};
 ghost use Rattle.page_sheets.specs.Facts.{confine, decide};
 ghost use Rattle.program.specs.Compiled.{SmallSpans};

@@ -3,7 +3,8 @@ use Prim.Native.Nat.{ℕ, suc, _≤_, _<_}
 use lib.IntN.{ℤ}
 use lib.Signed.{_≤ℤ_}
 use Rattle.page_numbers.specs.Numbers.{up, dn}
-use Rattle.page_walks.specs.Grid.{Grid, weight, far, least-weight, Sized}
+use Rattle.page_walks.specs.Grid.{Grid, weight, far}
+use Rattle.page_walks.specs.Sizes.{least-weight, Sized}
 
 -- a fact between vertices up to the last, with a small weight
 pub record Fact (last from to : ℕ) (k : ℤ) : Type 0 where

@@ -5,7 +5,8 @@ ghost use lib.ListN.{length};
 ghost use Rattle.page_walks.specs.Walk.{Below, closed};
 ghost use Rattle.page_numbers.specs.Numbers.{minZ};
 ghost use Rattle.page_meaning.specs.Limits.{mostVertices};
-ghost use Rattle.page_walks.specs.Grid.{blank, weight, tighten, farN, Sized, AllWithin};
+ghost use Rattle.page_walks.specs.Grid.{blank, weight, tighten, farN};
+ghost use Rattle.page_walks.specs.Sizes.{Sized, AllWithin};
 ghost use Rattle.page_walks.specs.Search.{least, first};
 
 // Vertex numbers are below it.

@@ -2,7 +2,8 @@
 use Prim.Native.Nat.{ℕ, _≤_}
 use native.Mathlib.Omega.{arith}
 use lib.IntN.{ℤ}
-use Rattle.page_walks.specs.Grid.{Grid, farN, Bounded, AllWithin, blank, tighten}
+use Rattle.page_walks.specs.Grid.{Grid, farN, blank, tighten}
+use Rattle.page_walks.specs.Sizes.{Bounded, AllWithin}
 use Rattle.page_walks.proofs.Grids.{tighten-keeps, blank-far}
 
 pub blank-within : (N : ℕ) → AllWithin farN N (blank N)

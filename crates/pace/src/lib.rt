@@ -1,7 +1,8 @@
 // The search and the closure's update over and over, for a benchmark to time from outside. Nothing else uses them.
 ghost use Prim.Native.Nat.{_<_, _≤_};
 ghost use Rattle.page_meaning.specs.Limits.{mostVertices};
-ghost use Rattle.page_walks.specs.Grid.{farN, Bounded, Sized, AllWithin};
+ghost use Rattle.page_walks.specs.Grid.{farN};
+ghost use Rattle.page_walks.specs.Sizes.{Bounded, Sized, AllWithin};
 
 // A way through all vertices, each edge of weight 1.
 fn line(n: usize) -> [[i64; 17]; 17]

@@ -6,8 +6,9 @@ use mathlib.Core.Bool.{Bool, true, false, not, _&&_, _||_}
 use mathlib.Core.List.{List, [], _∷_}
 use native.Mathlib.Omega.{arith}
 use lib.ListN.{length}
-use Rattle.page_formulas.specs.Program.{Values, Place, test, place, andI, orI, notI, trueI, falseI, Program, two, one, run, top, truth, places, kindsOf}
-use Rattle.page_formulas.specs.Known.{Three, fails, passes, open?, sure, and3, or3, not3, later, next, run3, top3, known, runKinds, knownKinds}
+use Rattle.page_formulas.specs.Program.{Values, Place, test, place, andI, orI, notI, trueI, falseI, Program, two, one, run, top, truth, places}
+use Rattle.page_formulas.specs.Kinds.{kindsOf, runKinds, knownKinds}
+use Rattle.page_formulas.specs.Known.{Three, fails, passes, open?, sure, and3, or3, not3, later, next, run3, top3, known}
 
 -- the values give each decided place its decision
 abbrev pub Agrees : Values → List Place → List Bool → Type 0

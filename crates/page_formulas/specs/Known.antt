@@ -1,6 +1,5 @@
 -- What the places decided so far say of a formula (01, Bytes of a sheet, node 1): Kleene's three values.
 -- Places are decided in order, so the decisions are a prefix: one for each of the first places.
-use Prim.Native.Nat.{ℕ, zero, suc}
 use mathlib.Core.Bool.{Bool, true, false}
 use mathlib.Core.List.{List, [], _∷_}
 use Rattle.page_formulas.specs.Program.{place, andI, orI, notI, trueI, falseI, Program, two, one}
@@ -56,24 +55,3 @@ top3 (a ∷ st) = a
 
 abbrev pub known : Program → List Bool → Three
 known p ds = top3 (run3 ds p [])
-
--- ---- the same run over the kinds of the instructions alone
-
-abbrev pub kindStep : ℕ → List Bool → List Three → List Three
-kindStep zero ds st = next ds ∷ st
-kindStep (suc zero) ds st = two and3 st
-kindStep (suc (suc zero)) ds st = two or3 st
-kindStep (suc (suc (suc zero))) ds st = one not3 st
-kindStep (suc (suc (suc (suc zero)))) ds st = passes ∷ st
-kindStep (suc (suc (suc (suc (suc k))))) ds st = fails ∷ st
-
-abbrev pub kindLater : ℕ → List Bool → List Bool
-kindLater zero ds = later ds
-kindLater (suc k) ds = ds
-
-unfoldable pub runKinds : List Bool → List ℕ → List Three → List Three
-runKinds ds [] st = st
-runKinds ds (k ∷ ks) st = runKinds (kindLater k ds) ks (kindStep k ds st)
-
-abbrev pub knownKinds : List ℕ → List Bool → Three
-knownKinds ks ds = top3 (runKinds ds ks [])

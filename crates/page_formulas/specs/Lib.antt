@@ -4,4 +4,5 @@ pub mod Parts
 pub mod Known
 pub mod Vertices
 pub mod Formulas
+pub mod Kinds
 pub mod Proper

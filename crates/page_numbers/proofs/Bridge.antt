@@ -109,9 +109,6 @@ pub ruleset ints = (arith, ≤-out, ≤-in, <-out, <-in, eq-out, eq-in)
 pub not-less : {a b : ℤ} → ¬ (a <ℤ b) → b ≤ℤ a
 not-less f = omega (ints, nlt-out f)
 
-pub not-le : {a b : ℤ} → ¬ (a ≤ℤ b) → b <ℤ a
-not-le f = omega (ints, nle-out f)
-
 pub min-spec : (a b : ℤ) → (minZ a b ≤ℤ a) × (minZ a b ≤ℤ b) × ((minZ a b ≡ a) ⊎ (minZ a b ≡ b))
 unfolding minZ
 min-spec a b = go (ltZ b a) (λ t. ltZ-yes t) (λ t. ltZ-no t)

@@ -4,7 +4,8 @@ use mathlib.Core.Bool.{Bool, true, false}
 use native.Mathlib.Omega.{arith}
 use lib.IntN.{ℤ, negsuc, negℤ, _+ℤ_}
 use Rattle.page_numbers.proofs.Bridge.{+up, +dn, neg-up, neg-dn}
-use Rattle.page_walks.specs.Grid.{Grid, farN, least-weight, Bounded, AllWithin}
+use Rattle.page_walks.specs.Grid.{Grid, farN}
+use Rattle.page_walks.specs.Sizes.{least-weight, Bounded, AllWithin}
 use Rattle.page_walks.proofs.Grids.{tighten-keeps}
 use Rattle.page_formulas.specs.Program.{Place}
 use Rattle.page_sheets.specs.Facts.{taken, decide}

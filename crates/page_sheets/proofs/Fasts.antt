@@ -8,7 +8,8 @@ use native.Mathlib.Omega.{arith}
 use lib.Dec.{T}
 use lib.IntN.{pos, _+ℤ_}
 use lib.Signed.{_≤ℤ_, _<ℤ_, ltZ-yes, ltZ-no}
-use Rattle.page_walks.specs.Grid.{Grid, weight, tighten, Sized}
+use Rattle.page_walks.specs.Grid.{Grid, weight, tighten}
+use Rattle.page_walks.specs.Sizes.{Sized}
 use Rattle.page_walks.specs.Near.{Weights, Closure}
 use Rattle.page_walks.specs.Search.{search, dist}
 use Rattle.page_walks.proofs.Grids.{tighten-sized}

@@ -12,7 +12,8 @@ use lib.IntN.{ℤ, pos, negsuc, _+ℤ_, negℤ}
 use lib.Signed.{_≤ℤ_, _<ℤ_, leZ-yes, ≤ℤ-refl}
 use Rattle.page_numbers.specs.Numbers.{up, dn}
 use Rattle.page_numbers.proofs.Bridge.{+law, +dn, neg-up, neg-dn, ints}
-use Rattle.page_walks.specs.Grid.{far, least-weight, Grid, weight, tighten, blank, Sized}
+use Rattle.page_walks.specs.Grid.{far, Grid, weight, tighten, blank}
+use Rattle.page_walks.specs.Sizes.{least-weight, Sized}
 use Rattle.page_walks.specs.Walk.{closed, Sat}
 use Rattle.page_walks.proofs.Grids.{tighten-keeps, tighten-le, tighten-sized, tighten-new, blank-sized, blank-far, Misses, missing-closed}
 use Rattle.page_formulas.specs.Program.{Values, test, Place}

@@ -10,7 +10,8 @@ use lib.Signed.{_≤ℤ_}
 use Rattle.page_numbers.specs.Numbers.{up, dn}
 use Rattle.page_numbers.proofs.Bridge.{+law, neg-up, neg-dn, ints}
 use Rattle.page_meaning.specs.Contents.{Range}
-use Rattle.page_walks.specs.Grid.{far, Grid, weight, tighten, blank, Sized}
+use Rattle.page_walks.specs.Grid.{far, Grid, weight, tighten, blank}
+use Rattle.page_walks.specs.Sizes.{Sized}
 use Rattle.page_walks.specs.Near.{Weights, relax, nearBlank, Closure}
 use Rattle.page_walks.specs.Walk.{Sat}
 use Rattle.page_walks.proofs.Grids.{tighten-sized, blank-sized, blank-far}

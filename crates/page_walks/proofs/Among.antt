@@ -13,7 +13,8 @@ use lib.Signed.{_≤ℤ_, _<ℤ_}
 use Rattle.page_numbers.specs.Numbers.{dn}
 use Rattle.page_numbers.proofs.Bridge.{ints, +law}
 use Rattle.page_walks.specs.Walk.{Below, closed, Sat}
-use Rattle.page_walks.specs.Grid.{far, least-weight}
+use Rattle.page_walks.specs.Grid.{far}
+use Rattle.page_walks.specs.Sizes.{least-weight}
 use Rattle.page_walks.specs.Search.{search, Shortest, Answer, NoNeg, dist}
 use Rattle.page_walks.proofs.Walks.{sound}
 use Rattle.page_walks.proofs.Searches.{search-is, shortest-one, dist-greatest}

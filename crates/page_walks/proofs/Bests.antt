@@ -9,7 +9,8 @@ use lib.ListN.{getD}
 use lib.IntN.{ℤ, pos, _+ℤ_}
 use Rattle.page_numbers.specs.Numbers.{minZ}
 use Rattle.page_meaning.specs.Limits.{mostVertices}
-use Rattle.page_walks.specs.Grid.{Grid, row, weight, farN, wide, Bounded, RowWithin, AllWithin, Sized}
+use Rattle.page_walks.specs.Grid.{Grid, row, weight, farN}
+use Rattle.page_walks.specs.Sizes.{wide, Bounded, RowWithin, AllWithin, Sized}
 use Rattle.page_walks.specs.Search.{least, first, best}
 use Rattle.page_walks.proofs.Searches.{first-unique, least-hit}
 use Rattle.page_walks.proofs.Rows.{read}

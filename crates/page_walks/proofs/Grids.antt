@@ -14,7 +14,8 @@ use lib.Signed.{_≤ℤ_, _<ℤ_, ltZ, ltZ-yes, ltZ-no, ≤ℤ-refl}
 use Rattle.page_numbers.specs.Numbers.{up, dn, minZ}
 use Rattle.page_numbers.proofs.Bridge.{ints, +law, min-spec}
 use Rattle.page_walks.specs.Walk.{from}
-use Rattle.page_walks.specs.Grid.{farN, far, least-weight, Grid, row, weight, tighten, blank, Sized}
+use Rattle.page_walks.specs.Grid.{farN, far, Grid, row, weight, tighten, blank}
+use Rattle.page_walks.specs.Sizes.{least-weight, Sized}
 
 -- the edge that is tightened, and every other
 pub tighten-is : (g : Grid) (u v : ℕ) (k : ℤ) (a b : ℕ) → (weight (tighten g u v k) a b ≡ weight g a b) ⊎ ((a ≡ u) × (b ≡ v) × (weight (tighten g u v k) a b ≡ minZ (weight g u v) k))

@@ -13,7 +13,8 @@ use lib.Signed.{_≤ℤ_, _<ℤ_}
 use Rattle.page_numbers.specs.Numbers.{up, dn}
 use Rattle.page_numbers.proofs.Bridge.{ints, +law, min-spec}
 use Rattle.page_walks.specs.Walk.{from, Sat}
-use Rattle.page_walks.specs.Grid.{Grid, weight, tighten, blank, Sized, tabled, far, farN}
+use Rattle.page_walks.specs.Grid.{Grid, weight, tighten, blank, far, farN}
+use Rattle.page_walks.specs.Sizes.{Sized, tabled}
 use Rattle.page_walks.specs.Search.{NoNeg, search, Answer, dist}
 use Rattle.page_walks.specs.Near.{Weights, via, relax, nearBlank, Tightened, Walked, Reached, Closure}
 use Rattle.page_walks.proofs.Pigeon.{below-append}

@@ -7,7 +7,8 @@ use lib.IntN.{ℤ, pos, _+ℤ_}
 use lib.ListN.{getD}
 use Rattle.page_numbers.specs.Numbers.{minZ}
 use Rattle.page_meaning.specs.Limits.{mostVertices}
-use Rattle.page_walks.specs.Grid.{Grid, row, weight, farN, wide, Bounded, RowWithin, AllWithin, Sized, filled}
+use Rattle.page_walks.specs.Grid.{Grid, row, weight, farN}
+use Rattle.page_walks.specs.Sizes.{wide, Bounded, RowWithin, AllWithin, Sized, filled}
 use Rattle.page_walks.specs.Near.{relax}
 use Rattle.page_walks.proofs.Rows.{filled-same, read}
 use Rattle.page_walks.proofs.Sums.{bounded-more, bounded-plus}

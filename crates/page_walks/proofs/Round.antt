@@ -12,7 +12,8 @@ use mir.Val.{SFits}
 use Rattle.page_meaning.specs.Limits.{mostVertices}
 use Rattle.page_numbers.proofs.Bridge.{ints, +law}
 use Rattle.page_walks.specs.Walk.{Below, from, closed}
-use Rattle.page_walks.specs.Grid.{Grid, weight, farN, wide, Bounded, AllWithin}
+use Rattle.page_walks.specs.Grid.{Grid, weight, farN}
+use Rattle.page_walks.specs.Sizes.{wide, Bounded, AllWithin}
 use Rattle.page_walks.proofs.Sums.{bounded-plus, bounded-more, exact-wide}
 
 pub below-at : (N : ℕ) (l : List ℕ) (i : ℕ) → Below N l → i < length l → getD l i 0 < N

@@ -14,7 +14,8 @@ use denote.Shadow.{shadow}
 use denote.Laws.{Is}
 use denote.Signed.{SInt}
 use denote.Array.{Array, each}
-use Rattle.page_walks.specs.Grid.{far, Grid, row, weight, Sized, filled, tabled}
+use Rattle.page_walks.specs.Grid.{far, Grid, row, weight}
+use Rattle.page_walks.specs.Sizes.{Sized, filled, tabled}
 
 -- ---- what is written at an index
 pub filled-length : {A : Type 0} (f : ℕ → A) (n : ℕ) (l : List A) → length (filled f n l) ≡ length l

@@ -6,7 +6,7 @@ use mir.Syntax.{w64}
 use mir.Val.{SFits}
 use Rattle.page_numbers.proofs.Bridge.{+up, +dn}
 use Rattle.page_numbers.proofs.Machine.{machine}
-use Rattle.page_walks.specs.Grid.{Bounded, wide}
+use Rattle.page_walks.specs.Sizes.{Bounded, wide}
 
 pub bounded-more : (x y : ℕ) (a : ℤ) → x ≤ y → Bounded x a → Bounded y a
 bounded-more x y a h p = record { high = omega arith; low = omega arith }

@@ -1,4 +1,5 @@
 pub mod Walk
 pub mod Grid
+pub mod Sizes
 pub mod Search
 pub mod Near

@@ -6,7 +6,8 @@ use native.Mathlib.Numerals.{add-one}
 use native.Mathlib.Omega.{arith}
 use lib.ListN.{length, take, set, length-append}
 use lib.Seq.{take-suc-set}
-use Rattle.page_formulas.specs.Program.{place, andI, orI, notI, trueI, falseI, kindsOf, Place}
+use Rattle.page_formulas.specs.Program.{place, andI, orI, notI, trueI, falseI, Place}
+use Rattle.page_formulas.specs.Kinds.{kindsOf}
 use Rattle.page_formulas.specs.Program as P
 use Rattle.program.specs.declared.types.Program.{Program}
 use Rattle.program.specs.declared.types.Joint.{Joint}

@@ -12,8 +12,9 @@ use Rattle.page_meaning.specs.Limits.{mostVertices}
 use Rattle.page_meaning.specs.Contents.{Range}
 use Rattle.page_questions.specs.Accepted.{Every}
 use Rattle.page_walks.specs.Walk.{Below}
-use Rattle.page_walks.specs.Grid.{least-weight, Bounded}
-use Rattle.page_formulas.specs.Program.{Place, places, Program, nowhere}
+use Rattle.page_walks.specs.Sizes.{least-weight, Bounded}
+use Rattle.page_formulas.specs.Program.{Place, places, Program}
+use Rattle.page_formulas.specs.Kinds.{nowhere}
 use Rattle.page_formulas.specs.Vertices.{Ranges, isSome, present}
 use Rattle.page_formulas.specs.Formulas.{Formula}
 use Rattle.program.specs.Compiled.{Compiled, Spanned, SmallSpans}

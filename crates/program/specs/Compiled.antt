@@ -10,7 +10,7 @@ use lib.Signed.{_≤ℤ_}
 use Rattle.page_numbers.specs.Numbers.{up, dn}
 use Rattle.page_meaning.specs.Limits.{mostVertices}
 use Rattle.page_meaning.specs.Contents.{Range}
-use Rattle.page_walks.specs.Grid.{least-weight, Bounded}
+use Rattle.page_walks.specs.Sizes.{least-weight, Bounded}
 use Rattle.page_formulas.specs.Vertices.{Ranges, present}
 use Rattle.page_formulas.specs.Formulas.{Formula}
 use Rattle.page_formulas.specs.Proper.{billion, Proper}

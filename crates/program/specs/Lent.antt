@@ -6,9 +6,10 @@ use mathlib.Core.List.{List, map}
 use lib.ListN.{length, take, getD}
 use lib.IntN.{ℤ, pos}
 use Rattle.page_meaning.specs.Limits.{mostVertices, mostDecisions}
-use Rattle.page_walks.specs.Grid.{least-weight, Bounded}
+use Rattle.page_walks.specs.Sizes.{least-weight, Bounded}
 use Rattle.page_walks.specs.Walk.{Below}
-use Rattle.page_formulas.specs.Program.{Program, Place, places, kindsOf}
+use Rattle.page_formulas.specs.Program.{Program, Place, places}
+use Rattle.page_formulas.specs.Kinds.{kindsOf}
 use Rattle.page_formulas.specs.Formulas.{Formula}
 use Rattle.page_formulas.specs.Vertices.{Ranges, present}
 

@@ -89,9 +89,6 @@ module _ (q : Question) (s : Sight) (i : ℕ) (u : Usable q s) (e : s .moved ≡
       rw (mode-listed (s .settings) (q .shape .width) (i - q .shape .first) g)
       (reads-at (There q) (modesOf q s) (i - q .shape .first) (rw e at (u .reads)))
 
-pub mode-still : (q : Question) (s : Sight) (i : ℕ) → s .moved ≡ false → keep ≡ modeIn q s i
-mode-still q s i e = rw e refl
-
 -- ---- terms
 
 row-term : (q : M.Question) (second : Bool) (i : ℕ) → rowSight q second i ≡ vertex (rowSight q second i .vertex)

@@ -8,7 +8,8 @@ use native.Mathlib.Omega.{arith}
 use lib.Dec.{eqb}
 use lib.ListN.{length, getD, set, length-set}
 use lib.IntN.{ℤ}
-use Rattle.page_walks.specs.Grid.{Grid, weight, Sized}
+use Rattle.page_walks.specs.Grid.{Grid, weight}
+use Rattle.page_walks.specs.Sizes.{Sized}
 use Rattle.page_walks.specs.Walk.{Sat}
 use Rattle.page_formulas.specs.Program.{Values, Place}
 use Rattle.page_sheets.specs.Facts.{taken}

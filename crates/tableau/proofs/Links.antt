@@ -7,7 +7,8 @@ use native.Mathlib.Omega.{arith}
 use native.Mathlib.Decide.{ℕ-discrete}
 use lib.ListN.{length, getD, take, set, length-map, length-set}
 use lib.Seq.{getD-set-same, take-all}
-use Rattle.page_formulas.specs.Program.{Values, Program, test, run, top, step, kindOf, kindsOf, places, nowhere}
+use Rattle.page_formulas.specs.Program.{Values, Program, test, run, top, step, places}
+use Rattle.page_formulas.specs.Kinds.{kindOf, kindsOf, nowhere}
 use Rattle.tableau.specs.Nodes.{arity, counted, says, Made, Shaped, Describes, valueAt, placeOf, Linked}
 use Rattle.tableau.specs.declared.types.Root.{Root}
 use Rattle.tableau.proofs.Tables.{numbers, below, put, numbers-length, Stacked, sum, Agree, agree-set, stacked-keeps, made-keeps, counted-near, counted-same}

@@ -5,7 +5,8 @@ use mathlib.Core.Bool.{Bool}
 use mathlib.Core.List.{List, [], _∷_}
 use native.Mathlib.Omega.{arith}
 use lib.ListN.{length, getD, take}
-use Rattle.page_formulas.specs.Program.{Values, Place, Instr, place, andI, orI, notI, trueI, falseI, Program, test, step, run, kindOf, kindsOf, places}
+use Rattle.page_formulas.specs.Program.{Values, Place, Instr, place, andI, orI, notI, trueI, falseI, Program, test, step, run, places}
+use Rattle.page_formulas.specs.Kinds.{kindOf, kindsOf}
 use Rattle.tableau.specs.Nodes.{arity, counted, says}
 
 -- the machine's instruction past the end

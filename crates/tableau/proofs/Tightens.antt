@@ -15,7 +15,8 @@ use mir.Val.{SFits}
 use Rattle.page_numbers.specs.Numbers.{minZ}
 use Rattle.page_numbers.proofs.Bridge.{min-spec, ints, eq-out, +law, neg-up, neg-dn}
 use Rattle.page_numbers.proofs.Machine.{machine, lt-true, lt-false, le-true, le-false, true-le, false-le}
-use Rattle.page_walks.specs.Grid.{Grid, Sized, row, filled, weight, tighten, far, farN, AllWithin}
+use Rattle.page_walks.specs.Grid.{Grid, row, weight, tighten, far, farN}
+use Rattle.page_walks.specs.Sizes.{Sized, filled, AllWithin}
 use Rattle.page_walks.specs.Near.{Weights, via, relax, Closure}
 use Rattle.page_walks.specs.Walk.{Sat}
 use Rattle.page_walks.proofs.Grids.{tighten-le}

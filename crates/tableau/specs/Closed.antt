@@ -7,7 +7,8 @@ use lib.ListN.{length}
 use lib.IntN.{ℤ, pos, _+ℤ_}
 use lib.Signed.{_≤ℤ_, _<ℤ_}
 use Rattle.page_meaning.specs.Limits.{mostVertices}
-use Rattle.page_walks.specs.Grid.{Grid, weight, Sized, far}
+use Rattle.page_walks.specs.Grid.{Grid, weight, far}
+use Rattle.page_walks.specs.Sizes.{Sized}
 use Rattle.page_walks.specs.Walk.{Sat}
 use Rattle.page_formulas.specs.Program.{Values}
 use Rattle.page_sheets.specs.Facts.{taken}

@@ -4,7 +4,8 @@ use mathlib.Core.Path.{_≡_}
 use mathlib.Core.Bool.{Bool, true, false, not, _&&_, _||_}
 use mathlib.Core.List.{List, []}
 use lib.ListN.{length, getD, take}
-use Rattle.page_formulas.specs.Program.{Values, Place, Program, kindsOf, places, test, run, top, truth, nowhere}
+use Rattle.page_formulas.specs.Program.{Values, Place, Program, places, test, run, top, truth}
+use Rattle.page_formulas.specs.Kinds.{kindsOf, nowhere}
 use Rattle.tableau.specs.declared.types.Root.{Root}
 
 -- how many truths an instruction takes from the stack, by its kind

@@ -2,7 +2,8 @@
 use ints::weights::difference;
 ghost use Prim.Native.Nat.{ℕ, _<_};
 ghost use mathlib.Core.Path.{_≡_};
-ghost use Rattle.page_walks.specs.Grid.{weight, filled};
+ghost use Rattle.page_walks.specs.Grid.{weight};
+ghost use Rattle.page_walks.specs.Sizes.{filled};
 ghost use Rattle.program.specs.Compiled.{Ranged};
 ghost use Rattle.tableau.specs.Begun.{endOf, spread};
 

@@ -4,7 +4,7 @@ use ints::weights::negation;
 ghost use Prim.Native.Nat.{suc, _<_};
 ghost use lib.ListN.{length};
 ghost use Rattle.page_meaning.specs.Limits.{mostVertices};
-ghost use Rattle.page_walks.specs.Grid.{Sized};
+ghost use Rattle.page_walks.specs.Sizes.{Sized};
 ghost use Rattle.program.specs.Lent.{placeAt};
 ghost use Rattle.page_sheets.specs.Facts.{taken};
 ghost use Rattle.grid.specs.Edges.{Fact};

@@ -10,7 +10,8 @@ use lib.Seq.{drop-cons, getD-set-same, getD-set-other}
 use Rattle.truth.specs.declared.knowing.Truth.{Truth}
 use Rattle.truth.specs.declared.knowing.Truth.the-variants.{Fails}
 use Rattle.page_formulas.specs.Program.{two}
-use Rattle.page_formulas.specs.Known.{Three, fails, passes, open?, and3, or3, not3, next, later, kindStep, runKinds, top3, knownKinds}
+use Rattle.page_formulas.specs.Known.{Three, fails, passes, open?, and3, or3, not3, next, later, top3}
+use Rattle.page_formulas.specs.Kinds.{kindStep, runKinds, knownKinds}
 use Rattle.truth.specs.Cells.{threeOf, bit, stackOf, joinedBy, pushedBy}
 
 -- ---- what one kind makes

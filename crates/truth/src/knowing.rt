@@ -3,7 +3,8 @@ ghost use mathlib.Core.Path.{_≡_};
 ghost use Prim.Native.Nat.{_≤_};
 ghost use mathlib.Core.List.{map};
 ghost use lib.ListN.{length};
-ghost use Rattle.page_formulas.specs.Known.{and3, or3, not3, knownKinds};
+ghost use Rattle.page_formulas.specs.Known.{and3, or3, not3};
+ghost use Rattle.page_formulas.specs.Kinds.{knownKinds};
 ghost use Rattle.truth.specs.Cells.{threeOf, joinedBy, pushedBy, bit};
 
 pub enum Truth {

@@ -14,7 +14,8 @@ use Rattle.page_numbers.proofs.Bridge.{ints, eq-out}
 use Rattle.page_numbers.proofs.Machine.{machine, lt-false}
 use mir.Syntax.{w64}
 use mir.Val.{SFits}
-use Rattle.page_walks.specs.Grid.{Grid, weight, tighten, tabled, far, farN, least-weight, Bounded, AllWithin}
+use Rattle.page_walks.specs.Grid.{Grid, weight, tighten, far, farN}
+use Rattle.page_walks.specs.Sizes.{tabled, least-weight, Bounded, AllWithin}
 use Rattle.page_walks.specs.Near.{relax}
 use Rattle.cycles.specs.Found as Found
 use Rattle.cycles.specs.declared.Cycle.{Cycle}

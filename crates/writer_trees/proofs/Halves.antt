@@ -9,13 +9,15 @@ use lib.ListN.{length, getD, drop, set}
 use lib.IntN.{ℤ, pos, _+ℤ_}
 use lib.Signed.{ltZ}
 use Rattle.page_meaning.specs.Limits.{mostVertices}
-use Rattle.page_walks.specs.Grid.{Grid, row, weight, tighten, tabled, Sized}
+use Rattle.page_walks.specs.Grid.{Grid, row, weight, tighten}
+use Rattle.page_walks.specs.Sizes.{tabled, Sized}
 use Rattle.page_walks.specs.Near.{relax}
 use Rattle.page_walks.specs.Search.{search}
 use Rattle.page_walks.proofs.Rows.{read, tabled-at}
 use Rattle.page_formulas.specs.Formulas.{Formula}
-use Rattle.page_formulas.specs.Known.{Three, fails, passes, open?, known, knownKinds}
-use Rattle.page_formulas.specs.Program.{Place, places, nowhere}
+use Rattle.page_formulas.specs.Known.{Three, fails, passes, open?, known}
+use Rattle.page_formulas.specs.Kinds.{knownKinds, nowhere}
+use Rattle.page_formulas.specs.Program.{Place, places}
 use Rattle.truth.specs.Cells.{bit}
 use Rattle.page_formulas.proofs.Knows.{known-kinds}
 use Rattle.program.specs.Lent.{Lent, placeAt}

@@ -14,7 +14,8 @@ use Rattle.page_numbers.proofs.Machine.{machine}
 use lib.Signed.{_≤ℤ_}
 use Rattle.page_numbers.specs.Numbers.{up, dn, minZ}
 use Rattle.page_numbers.proofs.Bridge.{ints, +law, neg-up, neg-dn}
-use Rattle.page_walks.specs.Grid.{Grid, weight, tighten, tabled, blank, Sized, far, farN, Bounded, AllWithin}
+use Rattle.page_walks.specs.Grid.{Grid, weight, tighten, blank, far, farN}
+use Rattle.page_walks.specs.Sizes.{tabled, Sized, Bounded, AllWithin}
 use Rattle.page_walks.specs.Near.{Weights, relax, nearBlank, Closure}
 use Rattle.page_walks.specs.Walk.{Sat}
 use Rattle.page_walks.proofs.Grids.{tighten-le, tighten-sized, blank-sized, blank-far}

@@ -6,7 +6,8 @@ use mathlib.Core.List.{List, [], map}
 use lib.ListN.{length, getD, take, drop}
 use lib.IntN.{ℤ, pos}
 use Rattle.page_numbers.specs.Numbers.{up}
-use Rattle.page_walks.specs.Grid.{Grid, weight, tighten, far, Sized}
+use Rattle.page_walks.specs.Grid.{Grid, weight, tighten, far}
+use Rattle.page_walks.specs.Sizes.{Sized}
 use Rattle.page_walks.specs.Near.{Closure}
 use Rattle.page_formulas.specs.Program.{Place, places}
 use Rattle.truth.specs.Cells.{bit}

@@ -2,7 +2,8 @@
 use Prim.Native.Nat.{ℕ, _<_}
 use mathlib.Core.Path.{_≡_}
 use Rattle.page_formulas.specs.Vertices.{Ranges}
-use Rattle.page_walks.specs.Grid.{Grid, weight, Sized}
+use Rattle.page_walks.specs.Grid.{Grid, weight}
+use Rattle.page_walks.specs.Sizes.{Sized}
 use Rattle.page_walks.specs.Near.{Closure}
 use Rattle.page_sheets.specs.Facts.{start}
 use Rattle.page_sheets.specs.Fast.{nearStart}

@@ -15,7 +15,7 @@ ghost use mathlib.Core.Path.{_≡_};
 ghost use mathlib.Core.Bool.{true, false};
 ghost use lib.ListN.{length, set, take};
 ghost use Rattle.page_formulas.specs.Formulas.{Formula};
-ghost use Rattle.page_formulas.specs.Known.{knownKinds};
+ghost use Rattle.page_formulas.specs.Kinds.{knownKinds};
 ghost use Rattle.truth.specs.Cells.{threeOf};
 ghost use Rattle.page_sheets.specs.Tree.{bytesOf, cycle};
 ghost use Rattle.page_walks.specs.Grid.{weight, row, tighten};

@@ -6,7 +6,8 @@ use borrow.Author.Needs.{needs}
 use lib.IntN.{ℤ, pos}
 use lib.ListN.{getD, set, replicate, getD-replicate}
 use Rattle.page_meaning.specs.Limits.{mostVertices}
-use Rattle.page_walks.specs.Grid.{far, blank, filled, tabled}
+use Rattle.page_walks.specs.Grid.{far, blank}
+use Rattle.page_walks.specs.Sizes.{filled, tabled}
 use Rattle.page_walks.specs.Near.{nearBlank}
 use Rattle.page_walks.proofs.Rows.{filled-out, filled-more}
 use Rattle.closure.proofs.near_blank.Statement.{statement}

@@ -10,7 +10,8 @@ use mir.Syntax.{w64}
 use mir.Val.{SFits, toZ}
 use mir.Facts.{toZ-ofZ}
 use Rattle.page_meaning.specs.Limits.{mostVertices}
-use Rattle.page_walks.specs.Grid.{row, wide, Bounded, filled, tabled}
+use Rattle.page_walks.specs.Grid.{row}
+use Rattle.page_walks.specs.Sizes.{wide, Bounded, filled, tabled}
 use Rattle.page_walks.proofs.Rows.{filled-more, filled-out}
 use Rattle.page_walks.proofs.Sums.{exact-wide}
 use Rattle.page_walks.proofs.Relaxed.{newRow, reach-bounded, on-within, row-is}

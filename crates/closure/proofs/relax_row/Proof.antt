@@ -10,7 +10,7 @@ use mir.Syntax.{w64}
 use mir.Val.{SFits, toZ}
 use mir.Facts.{toZ-ofZ}
 use Rattle.page_numbers.specs.Numbers.{minZ}
-use Rattle.page_walks.specs.Grid.{filled}
+use Rattle.page_walks.specs.Sizes.{filled}
 use Rattle.page_walks.proofs.Rows.{filled-more, filled-out}
 use Rattle.page_walks.proofs.Sums.{exact-two}
 use Rattle.closure.proofs.relax_row.Statement.{statement}

@@ -6,7 +6,8 @@ use denote.Ref.{now}
 use lib.ListN.{length, length-set}
 use mir.Facts.{toZ-ofZ}
 use Rattle.page_meaning.specs.Limits.{mostVertices}
-use Rattle.page_walks.specs.Grid.{weight, filled}
+use Rattle.page_walks.specs.Grid.{weight}
+use Rattle.page_walks.specs.Sizes.{filled}
 use Rattle.page_walks.proofs.Rows.{filled-more, read}
 use Rattle.cycles.proofs.column.Statement.{statement}
 use Rattle.cycles.proofs.column.Tie as tie

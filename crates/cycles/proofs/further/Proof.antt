@@ -7,7 +7,8 @@ use denote.Ref.{now}
 use lib.IntN.{ℤ, pos, _+ℤ_}
 use lib.ListN.{length, getD}
 use Rattle.page_meaning.specs.Limits.{mostVertices}
-use Rattle.page_walks.specs.Grid.{wide, row, weight, filled, tabled}
+use Rattle.page_walks.specs.Sizes.{wide, filled, tabled}
+use Rattle.page_walks.specs.Grid.{row, weight}
 use Rattle.page_walks.specs.Search.{least}
 use Rattle.page_walks.proofs.Rows.{filled-more, filled-same, filled-out}
 use Rattle.page_walks.proofs.Bests.{row-within, least-onward}

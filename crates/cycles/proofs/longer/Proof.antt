@@ -6,7 +6,8 @@ use denote.Ref.{now}
 use lib.IntN.{ℤ, pos, _+ℤ_}
 use lib.ListN.{length, getD, length-set}
 use mir.Facts.{toZ-ofZ}
-use Rattle.page_walks.specs.Grid.{farN, weight, filled}
+use Rattle.page_walks.specs.Grid.{farN, weight}
+use Rattle.page_walks.specs.Sizes.{filled}
 use Rattle.page_walks.specs.Search.{least}
 use Rattle.page_walks.proofs.Rows.{filled-more}
 use Rattle.page_walks.proofs.Bests.{row-within, least-edges}

@@ -5,7 +5,8 @@ use native.Mathlib.Omega.{arith}
 use borrow.Author.Needs.{needs}
 use denote.Ref.{now}
 use lib.ListN.{length}
-use Rattle.page_walks.specs.Grid.{row, weight, filled, tabled}
+use Rattle.page_walks.specs.Grid.{row, weight}
+use Rattle.page_walks.specs.Sizes.{filled, tabled}
 use Rattle.page_walks.proofs.Rows.{filled-more, filled-out}
 use Rattle.cycles.proofs.single.Statement.{statement}
 use Rattle.cycles.proofs.single.Tie as tie

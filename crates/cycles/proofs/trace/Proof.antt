@@ -9,7 +9,8 @@ use mir.Syntax.{w64}
 use mir.Val.{SFits, toZ, ofZ}
 use mir.Facts.{toZ-ofZ}
 use Rattle.page_meaning.specs.Limits.{mostVertices}
-use Rattle.page_walks.specs.Grid.{row, weight, farN, wide}
+use Rattle.page_walks.specs.Grid.{row, weight, farN}
+use Rattle.page_walks.specs.Sizes.{wide}
 use Rattle.page_walks.proofs.Rows.{read}
 use Rattle.cycles.proofs.Kept.{way-within}
 use Rattle.page_walks.proofs.Bests.{row-within}

@@ -7,7 +7,8 @@ use mir.Syntax.{w64}
 use mir.Val.{SFits}
 use mir.Facts.{toZ-ofZ}
 use Rattle.page_meaning.specs.Limits.{mostVertices}
-use Rattle.page_walks.specs.Grid.{farN, AllWithin}
+use Rattle.page_walks.specs.Grid.{farN}
+use Rattle.page_walks.specs.Sizes.{AllWithin}
 use Rattle.page_formulas.specs.Vertices.{Ranges}
 use Rattle.page_sheets.specs.Facts.{confineAll, start}
 use Rattle.program.specs.Compiled.{Spanned}

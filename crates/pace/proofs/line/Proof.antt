@@ -2,7 +2,8 @@ use Prim.Native.Nat.{_-_, _≤_}
 use native.Mathlib.Omega.{arith}
 use borrow.Author.Needs.{needs}
 use Rattle.page_meaning.specs.Limits.{mostVertices}
-use Rattle.page_walks.specs.Grid.{farN, Sized, AllWithin}
+use Rattle.page_walks.specs.Grid.{farN}
+use Rattle.page_walks.specs.Sizes.{Sized, AllWithin}
 use Rattle.page_walks.proofs.Grids.{blank-sized, tighten-sized}
 use Rattle.pace.proofs.Within.{blank-within, tighten-within}
 use Rattle.pace.proofs.line.Statement.{statement}

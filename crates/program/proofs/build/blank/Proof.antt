@@ -1,5 +1,5 @@
 use mathlib.Core.Path.{refl}
-use Rattle.page_formulas.specs.Program.{kindsOf}
+use Rattle.page_formulas.specs.Kinds.{kindsOf}
 use Rattle.page_formulas.specs.Program as P
 use Rattle.program.proofs.build.blank.Statement.{statement}
 use Rattle.program.proofs.build.blank.Tie as tie

@@ -2,7 +2,7 @@ use mathlib.Core.Path.{refl, sym, ap, _∙_}
 use mathlib.Core.List.{[], _∷_, _++_, append-nil}
 use native.Mathlib.Omega.{arith}
 use lib.ListN.{take}
-use Rattle.page_formulas.specs.Program.{kindsOf}
+use Rattle.page_formulas.specs.Kinds.{kindsOf}
 use Rattle.program.proofs.Emits.{push, no-place}
 use borrow.Author.Needs.{needs}
 use Rattle.program.proofs.build.emit.Statement.{statement}

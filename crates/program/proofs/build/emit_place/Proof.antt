@@ -2,7 +2,7 @@ use mathlib.Core.Path.{refl, ap, _∙_}
 use mathlib.Core.List.{[], _∷_, _++_}
 use lib.ListN.{take}
 use mir.Facts.{toZ-ofZ}
-use Rattle.page_formulas.specs.Program.{kindsOf}
+use Rattle.page_formulas.specs.Kinds.{kindsOf}
 use Rattle.page_formulas.specs.Program as P
 use Rattle.program.proofs.Emits.{push}
 use borrow.Author.Needs.{needs}

@@ -4,7 +4,8 @@ use mathlib.Core.Path.{_≡_, refl, ap, _∙_}
 use mathlib.Core.List.{[]}
 use lib.ListN.{length, getD, replicate, length-replicate}
 use lib.IntN.{pos}
-use Rattle.page_walks.specs.Grid.{filled, far}
+use Rattle.page_walks.specs.Sizes.{filled}
+use Rattle.page_walks.specs.Grid.{far}
 use Rattle.page_walks.proofs.Rows.{filled-more, filled-at}
 use Rattle.tableau.specs.Begun.{spread}
 use Rattle.tableau.proofs.beginning.begin.Statement.{statement}

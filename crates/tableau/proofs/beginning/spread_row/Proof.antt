@@ -3,7 +3,7 @@ use Prim.Native.Nat.{_-_, _≤_}
 use mathlib.Core.Path.{_≡_, refl, ap, _∙_}
 use mir.Syntax.{w64}
 use mir.Facts.{toZ-ofZ}
-use Rattle.page_walks.specs.Grid.{filled}
+use Rattle.page_walks.specs.Sizes.{filled}
 use Rattle.page_walks.proofs.Rows.{filled-more}
 use Rattle.tableau.specs.Begun.{spread}
 use Rattle.tableau.proofs.beginning.spread_row.Statement.{statement}

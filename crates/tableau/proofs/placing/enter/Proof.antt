@@ -9,7 +9,8 @@ use denote.Ref.{now}
 use mir.Syntax.{w64}
 use mir.Val.{SFits, toZ, ofZ}
 use mir.Facts.{toZ-ofZ}
-use Rattle.page_walks.specs.Grid.{row, weight, wide, Bounded}
+use Rattle.page_walks.specs.Grid.{row, weight}
+use Rattle.page_walks.specs.Sizes.{wide, Bounded}
 use Rattle.page_walks.proofs.Rows.{read}
 use Rattle.page_walks.proofs.Relaxed.{newRow, reach-bounded, on-within, row-is}
 use Rattle.tableau.proofs.Tightens.{Entering, entering-start, entering-stays, entering-row, entering-end, sum-fits, tight-within, tested, below-zero, from-zero, row-read}

@@ -1,6 +1,6 @@
 use mathlib.Core.Path.{_≡_, sym, ap, _∙_}
 use mir.Facts.{toZ-ofZ}
-use mir.Syntax.{w32, w64}
+use mir.Syntax.{w32}
 use mir.Val.{SFits}
 use Rattle.page_sheets.specs.Rows.{orElse}
 use Rattle.inserted.specs.Fixed.{optionOf}

@@ -8,7 +8,8 @@ use mir.Syntax.{w64}
 use mir.Val.{SFits, toZ, ofZ}
 use Rattle.page_numbers.proofs.Bridge.{+law}
 use Rattle.page_numbers.proofs.Machine.{machine}
-use Rattle.page_walks.specs.Grid.{weight, tighten, tabled}
+use Rattle.page_walks.specs.Grid.{weight, tighten}
+use Rattle.page_walks.specs.Sizes.{tabled}
 use Rattle.page_walks.specs.Near.{relax}
 use native.Mathlib.Numerals.{add-one}
 use lib.ListN.{length, getD}
