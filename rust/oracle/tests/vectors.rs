@@ -1,47 +1,49 @@
 //! Every recorded question, answer and sheet, byte for byte.
 
-use oracle::{check, read, verdict, write, Verdict};
+use oracle::examples::{hard, recorded, Recorded};
+use oracle::{check, hex, read, verdict, write, Verdict};
 
-const VECTORS: &str = include_str!("../../vectors/ask.tsv");
-
-fn bytes(hex: &str) -> Vec<u8> {
-    let digit = |at: usize| u8::from_str_radix(&hex[at..at + 2], 16).expect("hexadecimal");
-    (0..hex.len()).step_by(2).map(digit).collect()
-}
-
-/// What the program `ask` prints, its lines joined by `|`.
-fn answer(question: &[u8]) -> String {
+/// What the program `ask` prints.
+fn printed(question: &[u8]) -> String {
     if let Err(refusal) = read(question) {
-        return format!("refused {} {}", refusal.number, refusal.place);
+        return format!("refused {} {}\n", refusal.number, refusal.place);
     }
     let line = |name, asked| {
         let mut room = vec![0; 32_768];
         match write(asked, question, &mut room) {
-            Ok((Verdict::Yes, length)) => format!("{name} yes {length}"),
-            Ok((Verdict::No, length)) => format!("{name} no {length}"),
-            Err(_) => format!("{name} noroom"),
+            Ok((Verdict::Yes, length)) => format!("{name} yes {length}\n"),
+            Ok((Verdict::No, length)) => format!("{name} no {length}\n"),
+            Err(_) => format!("{name} noroom\n"),
         }
     };
-    format!("{}|{}", line("irrelevant", 1), line("computable", 2))
+    line("irrelevant", 1) + &line("computable", 2)
+}
+
+fn every(answers: &[Recorded]) {
+    for Recorded { question, printed: answer, sheets } in answers {
+        assert_eq!(printed(question), *answer, "{}", hex(question));
+        for (asked, sheet) in (1..).zip(sheets) {
+            if let Some(sheet) = sheet {
+                let mut room = vec![7; sheet.len()];
+                let (said, length) = write(asked, question, &mut room).expect("a sheet");
+                assert_eq!((length, &room), (sheet.len(), sheet), "{}", hex(question));
+                assert_eq!(verdict(asked, question), Ok(said));
+                assert_eq!(check(asked, question, sheet), Ok(said));
+            }
+        }
+    }
 }
 
 #[test]
 fn every_vector() {
-    let lines: Vec<&str> = VECTORS.lines().collect();
-    assert_eq!(lines.len(), 400);
-    for (at, line) in lines.iter().enumerate() {
-        let columns: Vec<&str> = line.split('\t').collect();
-        let question = bytes(columns[0]);
-        assert_eq!(answer(&question), columns[1], "line {}", at + 1);
-        for (asked, sheet) in [(1, columns[2]), (2, columns[3])] {
-            if sheet != "-" {
-                let sheet = bytes(sheet);
-                let mut room = vec![7; sheet.len()];
-                let (said, length) = write(asked, &question, &mut room).expect("a sheet");
-                assert_eq!((length, &room), (sheet.len(), &sheet), "line {}", at + 1);
-                assert_eq!(verdict(asked, &question), Ok(said));
-                assert_eq!(check(asked, &question, &sheet), Ok(said));
-            }
-        }
-    }
+    let all = recorded();
+    assert_eq!(all.len(), 400);
+    every(&all);
+}
+
+#[test]
+fn every_hard_vector() {
+    let all = hard();
+    assert_eq!(all.len(), 160);
+    every(&all);
 }

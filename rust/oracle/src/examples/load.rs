@@ -2,8 +2,8 @@
 //! of its conclusion. All columns of every view are visible; names are codes 0..9, regions 10..39.
 
 use super::Example;
-use crate::question::Question;
-use crate::sketch::Sketch;
+use crate::rules::question::Question;
+use super::sketch::Sketch;
 
 const REGIONS: [(&str, i32); 3] = [("East", 10), ("Cent", 20), ("West", 30)];
 

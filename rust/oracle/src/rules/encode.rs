@@ -1,6 +1,6 @@
 //! The bytes of a question. Nothing is tested here: faulty questions can be written too.
 
-use crate::question::*;
+use super::question::*;
 
 /// The bytes of a question.
 pub fn encode(question: &Question) -> Vec<u8> {

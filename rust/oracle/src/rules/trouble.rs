@@ -1,8 +1,8 @@
 //! The trouble lists: one formula for each way in which a change can be relevant, or not computable.
 
-use crate::draft::{constant, not, Draft};
-use crate::formula::Formula;
-use crate::question::*;
+use super::draft::{constant, not, Draft};
+use super::formula::Formula;
+use super::question::*;
 
 /// The formulas for `asked` (1 irrelevant, otherwise computable), in order.
 pub fn trouble(question: &Question, asked: u8) -> Vec<Formula> {

@@ -1,7 +1,7 @@
 //! The parts that trouble lists are made of: C, D, M and S over one row, another, or either after F.
 
-use crate::formula::{Formula, Part, Place, Vertex};
-use crate::question::*;
+use super::formula::{Formula, Part, Place, Vertex};
+use super::question::*;
 
 /// A vertex plus an offset.
 #[derive(Clone, Copy)]

@@ -1,7 +1,7 @@
 //! Reads a question: fields in order, each tested first for length, then for its value.
 
-use crate::question::*;
-use crate::refusal::{refuse, Fields, Refusal};
+use super::question::*;
+use super::refusal::{refuse, Fields, Refusal};
 use std::ops::Range;
 
 /// The question that the bytes hold, or the first fault (1 to 9) with its place.

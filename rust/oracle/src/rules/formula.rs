@@ -11,6 +11,13 @@ pub struct Place {
     pub k: i64,
 }
 
+impl Place {
+    /// Whether the place holds when the vertices have these values.
+    pub fn holds(&self, value: impl Fn(usize) -> i64) -> bool {
+        value(self.a) - value(self.b) <= self.k
+    }
+}
+
 /// A formula's structure; its leaves are the numbers of places.
 #[derive(Clone, Debug, PartialEq, Eq)]
 pub enum Part {
@@ -83,8 +90,7 @@ impl Formula {
 
     /// Whether the formula holds when the vertices have these values.
     pub fn holds(&self, value: impl Fn(usize) -> i64) -> bool {
-        let truth = |place: &Place| value(place.a) - value(place.b) <= place.k;
-        let decided: Vec<bool> = self.places.iter().map(truth).collect();
+        let decided: Vec<bool> = self.places.iter().map(|place| place.holds(&value)).collect();
         self.whole.known(&decided) == Some(true)
     }
 }

@@ -1,7 +1,7 @@
-//! Facts `a − b ≤ k` as edges from b to a with weight k, and what follows from them.
+//! Facts `a − b ≤ k` as edges from b to a with weight k, and the cycles below zero among them.
 
-use crate::formula::{Formula, Place};
-use crate::question::MOST_VERTICES;
+use super::formula::Formula;
+use super::question::MOST_VERTICES;
 
 /// The weight of an edge that isn't there.
 const NONE: i64 = i64::MAX;
@@ -93,70 +93,5 @@ impl Edges {
             list.push(to);
         }
         list
-    }
-}
-
-/// The edge that a place stands for when it is decided: from, to, weight.
-pub fn edge(place: Place, truth: bool) -> (usize, usize, i64) {
-    if truth {
-        (place.b, place.a, place.k)
-    } else {
-        (place.a, place.b, -place.k - 1)
-    }
-}
-
-/// Edges with no negative cycle, and each vertex's greatest value (vertex 0 being zero).
-#[derive(Clone)]
-pub struct Solved {
-    edges: Edges,
-    greatest: [i64; MOST_VERTICES],
-}
-
-impl Solved {
-    /// The ranges of the formula's vertices alone.
-    pub fn of_ranges(formula: &Formula) -> Self {
-        let mut greatest = [0; MOST_VERTICES];
-        for vertex in &formula.vertices {
-            greatest[vertex.number] = i64::from(vertex.hi);
-        }
-        let edges = Edges::of_ranges(formula);
-        Solved { edges, greatest }
-    }
-
-    /// The greatest value of each vertex; together they meet every fact.
-    pub fn greatest(&self, vertex: usize) -> i64 {
-        self.greatest[vertex]
-    }
-
-    /// One more fact, or the edges if it closes a negative cycle.
-    ///
-    /// Every value is the least weight of a walk from vertex 0. The new edge can only lower values,
-    /// by walks that pass it; so a lower value at its own start is a cycle below zero.
-    pub fn with(&self, from: usize, to: usize, weight: i64) -> Result<Solved, Box<Edges>> {
-        let mut next = self.clone();
-        next.edges.add(from, to, weight);
-        let mut waiting = next.lower(from, to, weight);
-        while let Some(at) = waiting.pop() {
-            if at == from {
-                return Err(Box::new(next.edges));
-            }
-            for onward in 0..MOST_VERTICES {
-                if let Some(weight) = next.edges.weight(at, onward) {
-                    waiting.extend(next.lower(at, onward, weight));
-                }
-            }
-        }
-        Ok(next)
-    }
-
-    /// Lowers the value of `to` if the edge asks for it; says what was lowered.
-    fn lower(&mut self, from: usize, to: usize, weight: i64) -> Vec<usize> {
-        let value = self.greatest[from] + weight;
-        if value < self.greatest[to] {
-            self.greatest[to] = value;
-            vec![to]
-        } else {
-            Vec::new()
-        }
     }
 }

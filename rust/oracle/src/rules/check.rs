@@ -1,11 +1,12 @@
 //! The checker: passes a sheet whose every leaf, branch, value and row holds.
 
-use crate::facts::{edge, Edges};
-use crate::formula::Formula;
-use crate::question::{Question, MOST_VERTICES};
-use crate::refusal::{refuse, Fields, Refusal};
-use crate::sheet::Verdict;
-use crate::trouble::trouble;
+use super::edges::Edges;
+use super::facts::edge;
+use super::formula::Formula;
+use super::question::{Question, MOST_VERTICES};
+use super::refusal::{refuse, Fields, Refusal};
+use super::sheet::Verdict;
+use super::trouble::trouble;
 
 /// The verdict that the sheet shows, or its first fault (11 to 16) with its place.
 pub fn check_sheet(question: &Question, asked: u8, sheet: &[u8]) -> Result<Verdict, Refusal> {

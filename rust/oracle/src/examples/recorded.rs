@@ -1,0 +1,38 @@
+//! Recorded answers, none of which the code here has made.
+
+use crate::hex::unhex;
+
+const ASK: &str = include_str!("../../../vectors/ask.tsv");
+const HARD: &str = include_str!("../../../vectors/hard.tsv");
+
+/// A question and what was answered to it.
+pub struct Recorded {
+    /// The question's bytes.
+    pub question: Vec<u8>,
+    /// What the program `ask` prints.
+    pub printed: String,
+    /// The sheets for asked 1 and 2; nothing where there is none, or none that `ask` has room for.
+    pub sheets: [Option<Vec<u8>>; 2],
+}
+
+/// Questions of all sorts, refused ones among them.
+pub fn recorded() -> Vec<Recorded> {
+    ASK.lines().map(line).collect()
+}
+
+/// Questions that keep a search busy if it splits cases before it looks.
+pub fn hard() -> Vec<Recorded> {
+    HARD.lines().map(line).collect()
+}
+
+/// Question, lines of `ask` joined by `|`, both sheets, with tabs between.
+fn line(text: &str) -> Recorded {
+    let fields: Vec<&str> = text.split('\t').collect();
+    let bytes = |text: &str| unhex(text).unwrap_or_else(|| panic!("{text} is not hexadecimal"));
+    let sheet = |text: &str| (text != "-").then(|| bytes(text));
+    Recorded {
+        question: bytes(fields[0]),
+        printed: fields[1].replace('|', "\n") + "\n",
+        sheets: [sheet(fields[2]), sheet(fields[3])],
+    }
+}
