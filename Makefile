@@ -1,7 +1,7 @@
 # The commands of the project. `make test` is the gate.
 SHELL := /bin/bash
 .SHELLFLAGS := -euo pipefail -c
-.PHONY: test programs run twelve published refusals lib soak bench fmt
+.PHONY: test programs run twelve published refusals lib soak slow bench fmt
 
 cargo = cargo $(1) --quiet --offline --release --manifest-path rust/Cargo.toml
 
@@ -44,12 +44,16 @@ SEED ?= 1
 soak: lib
 	$(call cargo,run) -p diff --bin soak -- $(LONG) $(SEED)
 
-# Questions and nodes a second beside z3's, and the two inner loops by the number of vertices. Installs z3 if it isn't there.
+# A search for the slowest answers, for so many seconds from a seed: the worst of each routine with its question.
+SECONDS ?= 120
+slow: lib
+	$(call cargo,run) -p diff --bin slow -- $(SECONDS) $(SEED)
+
+# Times of verdicts, sheets and checks, verdicts beside z3's; and by the number of vertices. Installs z3 if it isn't there.
 bench: lib
 	rust/bench-setup.sh
-	rt staticlib pace | tail -n 1
 	$(call cargo,run) -p diff --bin bench
-	$(call cargo,run) -p pace
+	$(call cargo,run) -p diff --bin pace
 
 fmt:
 	rt fmt

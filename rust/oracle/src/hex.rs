@@ -9,5 +9,5 @@ pub fn hex(bytes: &[u8]) -> String {
 pub fn unhex(text: &str) -> Option<Vec<u8>> {
     let digit = |at: usize| char::from(text.as_bytes()[at]).to_digit(16);
     let byte = |at: usize| Some((16 * digit(at)? + digit(at + 1)?) as u8);
-    (text.len() % 2 == 0).then(|| (0..text.len()).step_by(2).map(byte).collect())?
+    text.len().is_multiple_of(2).then(|| (0..text.len()).step_by(2).map(byte).collect())?
 }

@@ -1,8 +1,8 @@
 //! Verdicts against the definitions over contents, all small contents being tried.
 
 use oracle::contents::{all_contents, breaks, computable, irrelevant};
-use oracle::sample::{question, tiny, Chance};
 use oracle::rules::sheet::{judge, values_in, work, Verdict};
+use oracle::sample::{question, tiny, Chance};
 use oracle::Question;
 
 fn said(question: &Question, asked: u8) -> bool {

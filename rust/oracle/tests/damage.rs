@@ -1,7 +1,7 @@
 //! Damaged questions and sheets: never a panic, never a verdict that isn't so.
 
-use oracle::sample::{damaged, misfit, other_sheet, question, Chance};
 use oracle::rules::sheet::work;
+use oracle::sample::{damaged, misfit, other_sheet, question, Chance};
 use oracle::{check, encode, read, verdict, write, Refusal};
 use std::collections::BTreeMap;
 

@@ -1,9 +1,9 @@
 //! The cases and bytes that the scope itself names.
 
 use oracle::examples::{shortcuts, twelve};
-use oracle::sample::deepest;
 use oracle::rules::sheet::values_in;
 use oracle::rules::trouble::trouble;
+use oracle::sample::deepest;
 use oracle::{check, encode, read, verdict, write, Refusal, Verdict};
 
 fn case(name: &str) -> Vec<u8> {

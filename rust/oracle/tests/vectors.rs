@@ -1,27 +1,11 @@
 //! Every recorded question, answer and sheet, byte for byte.
 
-use oracle::examples::{hard, recorded, Recorded};
-use oracle::{check, hex, read, verdict, write, Verdict};
-
-/// What the program `ask` prints.
-fn printed(question: &[u8]) -> String {
-    if let Err(refusal) = read(question) {
-        return format!("refused {} {}\n", refusal.number, refusal.place);
-    }
-    let line = |name, asked| {
-        let mut room = vec![0; 32_768];
-        match write(asked, question, &mut room) {
-            Ok((Verdict::Yes, length)) => format!("{name} yes {length}\n"),
-            Ok((Verdict::No, length)) => format!("{name} no {length}\n"),
-            Err(_) => format!("{name} noroom\n"),
-        }
-    };
-    line("irrelevant", 1) + &line("computable", 2)
-}
+use oracle::examples::{hard, printed, recorded, Recorded};
+use oracle::{check, hex, verdict, write};
 
 fn every(answers: &[Recorded]) {
     for Recorded { question, printed: answer, sheets } in answers {
-        assert_eq!(printed(question), *answer, "{}", hex(question));
+        assert_eq!(printed(|asked, room| write(asked, question, room)), *answer, "{}", hex(question));
         for (asked, sheet) in (1..).zip(sheets) {
             if let Some(sheet) = sheet {
                 let mut room = vec![7; sheet.len()];

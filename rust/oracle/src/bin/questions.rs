@@ -3,8 +3,8 @@
 //! commas between, to be put into a program's text. With the word `table`: the published examples as
 //! the rows of a Markdown table.
 
-use oracle::{encode, hex};
 use oracle::examples::{published, shortcuts, twelve};
+use oracle::{encode, hex};
 
 fn main() {
     let words: Vec<String> = std::env::args().skip(1).collect();

@@ -9,7 +9,7 @@ mod sketch;
 mod twelve;
 
 pub use load::{load, xyz};
-pub use recorded::{hard, recorded, Recorded};
+pub use recorded::{hard, printed, recorded, Recorded, ASK_ROOM};
 pub use report_000::report_000;
 pub use report_002::report_002;
 pub use twelve::{shortcuts, twelve};

@@ -1,9 +1,29 @@
 //! Recorded answers, none of which the code here has made.
 
 use crate::hex::unhex;
+use crate::rules::refusal::Refusal;
+use crate::rules::sheet::Verdict;
 
 const ASK: &str = include_str!("../../../vectors/ask.tsv");
 const HARD: &str = include_str!("../../../vectors/hard.tsv");
+
+/// The room that the program `ask` has for a sheet.
+pub const ASK_ROOM: usize = 32_768;
+
+/// What `ask` prints where sheets are written so.
+pub fn printed(write: impl Fn(u8, &mut [u8]) -> Result<(Verdict, usize), Refusal>) -> String {
+    let mut lines = String::new();
+    for (asked, name) in [(1, "irrelevant"), (2, "computable")] {
+        let mut room = vec![0; ASK_ROOM];
+        lines += &match write(asked, &mut room) {
+            Ok((Verdict::Yes, length)) => format!("{name} yes {length}\n"),
+            Ok((Verdict::No, length)) => format!("{name} no {length}\n"),
+            Err(Refusal { number: 21, .. }) => format!("{name} noroom\n"),
+            Err(Refusal { number, place }) => return format!("refused {number} {place}\n"),
+        };
+    }
+    lines
+}
 
 /// A question and what was answered to it.
 pub struct Recorded {
