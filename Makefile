@@ -1,7 +1,7 @@
 # The commands of the project. `make test` is the gate.
 SHELL := /bin/bash
 .SHELLFLAGS := -euo pipefail -c
-.PHONY: test house programs run twelve published refusals lib soak bench fmt
+.PHONY: test house programs run twelve published refusals lib soak slow bench fmt
 
 cargo = cargo $(1) --quiet --offline --release --manifest-path rust/Cargo.toml
 
@@ -26,17 +26,17 @@ run: programs
 # The scope document's twelve cases, and the shortcuts that it warns of, with both answers and the rows that show a no.
 twelve:
 	rt check twelve
-	target/bin/twelve
+	examples/start twelve
 
 # The published examples of two reports: what the report says, and our verdicts, as irrelevant/computable.
 published:
 	rt check published
-	target/bin/published < crates/published/stdin
+	examples/start published < crates/published/stdin
 
 # The reader on byte strings for each number that says no, at several places: number and place, and what was changed.
 refusals:
 	rt check refusals
-	target/bin/refusals < crates/refusals/stdin
+	examples/start refusals < crates/refusals/stdin
 
 # The library for C and Rust: target/staticlib/libcapi.a, with include/slushtrowel.h.
 lib:
@@ -48,12 +48,16 @@ SEED ?= 1
 soak: lib
 	$(call cargo,run) -p diff --bin soak -- $(LONG) $(SEED)
 
-# Questions and nodes a second beside z3's, and the two inner loops by the number of vertices. Installs z3 if it isn't there.
+# A search for the slowest answers, for so many seconds from a seed: the worst of each routine with its question.
+SECONDS ?= 120
+slow: lib
+	$(call cargo,run) -p diff --bin slow -- $(SECONDS) $(SEED)
+
+# Times of verdicts, sheets and checks, verdicts beside z3's; and by the number of vertices. Installs z3 if it isn't there.
 bench: lib
 	rust/bench-setup.sh
-	rt staticlib pace | tail -n 1
 	$(call cargo,run) -p diff --bin bench
-	$(call cargo,run) -p pace
+	$(call cargo,run) -p diff --bin pace
 
 fmt:
 	rt fmt

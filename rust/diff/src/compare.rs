@@ -2,10 +2,9 @@
 
 use crate::library;
 use oracle::contents::{all_contents, computable, irrelevant};
-use oracle::examples::hex;
-use oracle::sample::{damaged, misfit, other_sheet, question, tiny, Chance};
-use oracle::sheet::{work, Worked};
-use oracle::{encode, read, Question, Refusal, Verdict};
+use oracle::rules::sheet::{work, Worked};
+use oracle::sample::{changed, damaged, hard, misfit, other_sheet, question, tiny, Chance};
+use oracle::{encode, hex, read, Question, Refusal, Verdict};
 use std::collections::BTreeMap;
 
 /// What was put to both, counted.
@@ -13,9 +12,9 @@ use std::collections::BTreeMap;
 pub struct Tally {
     /// Questions.
     pub questions: u64,
-    /// Questions that were left out because their sheets have too many nodes.
+    /// Sheets that are longer than any room of the run.
     pub too_long: u64,
-    /// Nodes of the sheets, as the oracle counts them.
+    /// Nodes of the sheets, as far as there is room.
     pub nodes: u64,
     /// Rooms written to.
     pub rooms: u64,
@@ -35,9 +34,8 @@ impl Tally {
 /// A difference, with what is needed to see it again.
 pub type Difference = String;
 
-/// One round: makes a question and compares everything about it. Questions whose sheets have more
-/// than `most_nodes` nodes are left out.
-pub fn round(chance: &mut Chance, most_nodes: u64, tally: &mut Tally) -> Result<(), Difference> {
+/// One round: makes a question and compares everything about it, in rooms of up to so many bytes.
+pub fn round(chance: &mut Chance, most_room: usize, tally: &mut Tally) -> Result<(), Difference> {
     let bytes = some_question(chance);
     tally.questions += 1;
     if chance.once_in(50) {
@@ -47,13 +45,17 @@ pub fn round(chance: &mut Chance, most_nodes: u64, tally: &mut Tally) -> Result<
     let Ok(question) = read(&bytes) else {
         return (1..=2).try_for_each(|asked| refused(chance, asked, &bytes, tally));
     };
-    for asked in [1, 2] {
-        match work(&question, asked, usize::MAX, most_nodes) {
-            Some(worked) => accepted(chance, asked, &question, &worked, tally)?,
-            None => tally.too_long += 1,
-        }
+    accepted(chance, &question, most_room, tally)
+}
+
+/// The same for a hard question.
+pub fn hard_round(chance: &mut Chance, most_room: usize, tally: &mut Tally) -> Result<(), Difference> {
+    let mut question = hard(chance);
+    for _ in 0..chance.below(4) {
+        question = changed(chance, &question);
     }
-    Ok(())
+    tally.questions += 1;
+    accepted(chance, &question, most_room, tally)
 }
 
 /// A tiny question against the definitions over contents, all small contents being tried.
@@ -94,8 +96,32 @@ fn refused(chance: &mut Chance, asked: u8, bytes: &[u8], tally: &mut Tally) -> R
     sheet(asked, bytes, &vec![1; chance.below(20)], tally)
 }
 
-/// A question with its sheet: the verdict, rooms of many lengths, sheets of many kinds.
+/// A question that both must accept, with what it is asked.
 pub fn accepted(
+    chance: &mut Chance,
+    question: &Question,
+    most_room: usize,
+    tally: &mut Tally,
+) -> Result<(), Difference> {
+    let bytes = encode(question);
+    for asked in [1, 2] {
+        let worked = work(question, asked, most_room);
+        let answer = library::verdict(asked, &bytes);
+        tally.note(&answer);
+        same("verdict", asked, &bytes, &answer, &Ok(worked.verdict))?;
+        tally.nodes += worked.nodes;
+        tally.too_long += u64::from(!worked.whole);
+        for length in room_lengths(chance, &worked) {
+            room(chance, asked, &bytes, length, |room| oracle::fill(&worked, room), tally)?;
+        }
+        sheets(chance, asked, question, &worked, tally)?;
+    }
+    Ok(())
+}
+
+/// Sheets of many kinds: the writer's or, where there isn't room for it, its beginning; another that
+/// passes; damaged ones.
+fn sheets(
     chance: &mut Chance,
     asked: u8,
     question: &Question,
@@ -103,15 +129,11 @@ pub fn accepted(
     tally: &mut Tally,
 ) -> Result<(), Difference> {
     let bytes = encode(question);
-    tally.nodes += worked.nodes;
-    let answer = library::verdict(asked, &bytes);
-    tally.note(&answer);
-    same("verdict", asked, &bytes, &answer, &Ok(worked.verdict))?;
-    for length in room_lengths(chance, worked.length) {
-        room(chance, asked, &bytes, length, |room| oracle::fill(worked, room), tally)?;
-    }
+    let other = match worked.whole {
+        true => other_sheet(chance, question, asked, worked),
+        false => worked.bytes[..chance.below(worked.bytes.len())].to_vec(),
+    };
     sheet(asked, &bytes, &worked.bytes, tally)?;
-    let other = other_sheet(chance, question, asked, worked);
     sheet(asked, &bytes, &other, tally)?;
     sheet(3 - asked, &bytes, &other, tally)?;
     for _ in 0..4 {
@@ -121,14 +143,19 @@ pub fn accepted(
     Ok(())
 }
 
-/// Lengths around the needed one; all of them where the sheet is short.
-fn room_lengths(chance: &mut Chance, needed: usize) -> Vec<usize> {
-    if needed <= 24 && chance.once_in(4) {
-        return (0..needed + 4).collect();
+/// Lengths around the needed one, all of them where the sheet is short; where it is longer than the
+/// bytes at hand, lengths up to theirs.
+fn room_lengths(chance: &mut Chance, worked: &Worked) -> Vec<usize> {
+    let known = worked.bytes.len();
+    if !worked.whole {
+        return vec![chance.below(known), known];
     }
-    let less = chance.below(needed);
-    let more = needed + 2 + chance.below(40);
-    vec![less, needed - 1, needed, needed + 1, more]
+    if known <= 24 && chance.once_in(4) {
+        return (0..known + 4).collect();
+    }
+    let less = chance.below(known);
+    let more = known + 2 + chance.below(40);
+    vec![less, known - 1, known, known + 1, more]
 }
 
 /// The library writes to a room of this length, and the oracle by `write`: the answers agree, and so

@@ -3,11 +3,23 @@
 pub mod compare;
 pub mod library;
 pub mod load;
+pub mod machine;
 pub mod measure;
+pub mod slow;
 pub mod smt;
+pub mod z3;
 
 /// The stack that the header promises to be plenty.
-const STACK: usize = 8 << 20;
+pub const STACK: usize = 8 << 20;
+
+/// How many of so many rounds a test makes: an emulator takes some thirty times as long, so a tenth.
+pub const fn rounds(count: u64) -> u64 {
+    if library::EMULATED {
+        count / 10
+    } else {
+        count
+    }
+}
 
 /// Runs on a thread with just that stack.
 pub fn on_promised_stack<T: Send>(run: impl FnOnce() -> T + Send) -> T {

@@ -1,13 +1,11 @@
 //! What the benchmark asks.
 
-use oracle::examples;
-use oracle::sample::{question, sized, Chance};
-use oracle::sheet::work;
-use oracle::trouble::trouble;
+use crate::smt::script;
+use oracle::examples::{self, ASK_ROOM};
+use oracle::rules::sheet::{work, Worked};
+use oracle::rules::trouble::trouble;
+use oracle::sample::{hard, question, sized, Chance};
 use oracle::{encode, Question, Verdict};
-
-/// Questions with more nodes are left out of the random loads.
-const MOST_NODES: u64 = 20_000;
 
 /// One question as it is asked, with what is known of it.
 pub struct Asked {
@@ -15,10 +13,8 @@ pub struct Asked {
     pub bytes: Vec<u8>,
     /// What is asked, 1 or 2.
     pub asked: u8,
-    /// The right verdict.
-    pub verdict: Verdict,
-    /// How many nodes the writer's rule visits.
-    pub nodes: u64,
+    /// The right verdict, with the sheet as far as `ask` has room for it.
+    pub worked: Worked,
     /// The formulas up to the first open one, as SMT-LIB.
     pub script: String,
     /// How many formulas those are.
@@ -33,23 +29,33 @@ pub struct Load {
     pub questions: Vec<Asked>,
 }
 
-/// All loads.
-pub fn loads() -> Vec<Load> {
-    let mut all = vec![appendix_b(), random(), nine_vertices()];
-    all.extend((1..=6).map(comparisons));
-    all.extend([1, 2, 3, 4, 6, 8].map(columns));
-    all
+/// A load's name, and how its questions are made.
+type Making = (String, Box<dyn Fn() -> Vec<Asked>>);
+
+/// The loads that have the word in their names; every load has the empty word.
+pub fn loads(word: &str) -> Vec<Load> {
+    let mut all: Vec<Making> = vec![
+        ("Appendix B of report 000".to_string(), Box::new(appendix_b)),
+        ("random, all shapes".to_string(), Box::new(random)),
+        ("nine vertices, long sheets".to_string(), Box::new(nine_vertices)),
+        ("hard".to_string(), Box::new(hard_ones)),
+    ];
+    for count in 1..=6 {
+        let name = format!("6 columns, {count} comparisons a condition");
+        all.push((name, Box::new(move || grown(6, count))));
+    }
+    for count in [1, 2, 4, 8] {
+        let name = format!("{count} columns, 3 comparisons a condition");
+        all.push((name, Box::new(move || grown(count, 3))));
+    }
+    let wanted = all.into_iter().filter(|(name, _)| name.contains(word));
+    wanted.map(|(name, questions)| Load { name, questions: questions() }).collect()
 }
 
-/// Both verdicts of a question, unless a sheet has fewer than `least` nodes or too many.
-fn ask(question: &Question, least: u64, to: &mut Vec<Asked>) {
+/// Both verdicts of a question.
+fn ask(question: &Question, to: &mut Vec<Asked>) {
     for asked in [1, 2] {
-        let Some(worked) = work(question, asked, usize::MAX, MOST_NODES) else {
-            continue;
-        };
-        if worked.nodes < least {
-            continue;
-        }
+        let worked = work(question, asked, ASK_ROOM);
         let mut formulas = trouble(question, asked);
         if worked.verdict == Verdict::No {
             formulas.truncate(usize::from(worked.bytes[7]) + 1);
@@ -57,60 +63,52 @@ fn ask(question: &Question, least: u64, to: &mut Vec<Asked>) {
         to.push(Asked {
             bytes: encode(question),
             asked,
-            verdict: worked.verdict,
-            nodes: worked.nodes,
-            script: formulas.iter().map(crate::smt::script).collect(),
+            worked,
+            script: formulas.iter().map(script).collect(),
             formulas: formulas.len(),
         });
     }
 }
 
 /// The pairs of report 000's Appendix B that fit.
-fn appendix_b() -> Load {
+fn appendix_b() -> Vec<Asked> {
     let mut questions = Vec::new();
-    for example in examples::load() {
-        ask(&example.question, 0, &mut questions);
-    }
-    named("Appendix B of report 000", questions)
+    examples::load().iter().for_each(|example| ask(&example.question, &mut questions));
+    questions
 }
 
-fn random() -> Load {
+fn random() -> Vec<Asked> {
     let mut chance = Chance::new(21);
     let mut questions = Vec::new();
-    (0..500).for_each(|_| ask(&question(&mut chance), 0, &mut questions));
-    named("random, all shapes", questions)
+    (0..500).for_each(|_| ask(&question(&mut chance), &mut questions));
+    questions
 }
 
-/// Questions whose largest formula has nine vertices, with long sheets.
-fn nine_vertices() -> Load {
+/// Questions whose largest formula has nine vertices, with sheets of 1,000 bytes or more.
+fn nine_vertices() -> Vec<Asked> {
     let mut chance = Chance::new(22);
     let mut questions = Vec::new();
     while questions.len() < 100 {
         let question = question(&mut chance);
         let sizes = trouble(&question, 2).into_iter().map(|formula| 1 + formula.vertices.len());
         if sizes.max() == Some(9) {
-            ask(&question, 500, &mut questions);
+            ask(&question, &mut questions);
+            questions.retain(|asked| asked.worked.bytes.len() >= 1_000);
         }
     }
-    named("nine vertices, 500 nodes and more", questions)
+    questions
 }
 
-fn comparisons(count: usize) -> Load {
-    named(&format!("6 columns, {count} comparisons a condition"), grown(6, count))
-}
-
-fn columns(count: usize) -> Load {
-    named(&format!("{count} columns, 3 comparisons a condition"), grown(count, 3))
+fn hard_ones() -> Vec<Asked> {
+    let mut chance = Chance::new(24);
+    let mut questions = Vec::new();
+    (0..300).for_each(|_| ask(&hard(&mut chance), &mut questions));
+    questions
 }
 
 fn grown(columns: usize, comparisons: usize) -> Vec<Asked> {
     let mut chance = Chance::new(23);
     let mut questions = Vec::new();
-    (0..150).for_each(|_| ask(&sized(&mut chance, columns, comparisons), 0, &mut questions));
+    (0..150).for_each(|_| ask(&sized(&mut chance, columns, comparisons), &mut questions));
     questions
-}
-
-fn named(name: &str, questions: Vec<Asked>) -> Load {
-    let name = name.to_string();
-    Load { name, questions }
 }

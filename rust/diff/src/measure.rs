@@ -1,144 +1,91 @@
-//! Times one load with the library, the oracle and z3, and holds their answers together.
+//! Times the answers to one load, and holds them to what is right.
 //!
-//! Times are processor seconds as the kernel counts them, so that other work on the machine counts
-//! little.
+//! Means are processor seconds as the kernel counts them, so that other work on the machine counts
+//! little. That clock is too coarse for one answer: an answer's own time is the least of five by the
+//! clock on the wall.
 
 use crate::library;
 use crate::load::{Asked, Load};
 use oracle::{Refusal, Verdict};
-use std::fs::read_to_string;
-use std::io::{Read, Write};
-use std::process::{Command, Stdio};
+use std::time::Instant;
 
 /// How many seconds are measured at least; shorter runs are repeated.
 const ENOUGH: f64 = 0.5;
 
-/// Room for the longest sheet of a load: 20,000 nodes of 19 bytes at most; but a room is cleared to its end, so no more than most need.
-const ROOM: usize = 400_000;
-
-/// Seconds for the whole load.
-pub struct Figures {
-    /// The library's verdicts.
-    pub verdicts: f64,
-    /// The library's sheets, written.
-    pub written: f64,
-    /// The same, checked.
-    pub checked: f64,
-    /// The oracle's verdicts.
-    pub oracle: f64,
-    /// z3, if it is installed.
-    pub z3: Option<f64>,
+/// The times of a load's answers, in seconds.
+pub struct Times {
+    /// How many answers.
+    pub count: usize,
+    /// The mean.
+    pub mean: f64,
+    /// No more than one in a hundred took longer.
+    pub ninety_nine: f64,
+    /// The slowest.
+    pub slowest: f64,
 }
 
-/// Measures a load; stops if an answer is wrong.
-pub fn measure(load: &Load) -> Figures {
-    let mut room = vec![0; ROOM];
-    let sheets: Vec<Vec<u8>> = load.questions.iter().map(|asked| sheet(asked, &mut room)).collect();
-    Figures {
-        verdicts: mean(|| Some(verdicts(load, library::verdict))).expect("a time"),
-        written: mean(|| Some(written(load))).expect("a time"),
-        checked: mean(|| Some(checked(load, &sheets))).expect("a time"),
-        oracle: mean(|| Some(verdicts(load, oracle::verdict))).expect("a time"),
-        z3: z3(load),
+/// Times these answers, each of which is given again and again.
+fn times<'a>(all: &[&'a Asked], mut answer: impl FnMut(&'a Asked)) -> Option<Times> {
+    let mut each: Vec<f64> = all.iter().map(|asked| least_of_five(|| answer(asked))).collect();
+    each.sort_by(f64::total_cmp);
+    let count = each.len();
+    let slowest = *each.last()?;
+    let ninety_nine = each[(count * 99).div_ceil(100) - 1];
+    let mean = mean(ENOUGH, || all.iter().for_each(|asked| answer(asked))) / count as f64;
+    Some(Times { count, mean, ninety_nine, slowest })
+}
+
+/// The seconds of one run, from as many as fill `enough` seconds: of this thread or, where the library
+/// runs in an emulator and so in another process, by the clock on the wall.
+pub fn mean(enough: f64, mut run: impl FnMut()) -> f64 {
+    if !library::EMULATED {
+        return clock::each(enough, run);
     }
-}
-
-/// The sheet of a question.
-fn sheet(asked: &Asked, room: &mut [u8]) -> Vec<u8> {
-    let (_, length) =
-        library::write(asked.asked, &asked.bytes, room).expect("room for every sheet of a load");
-    room[..length].to_vec()
-}
-
-/// The mean of enough runs, each of which tells its seconds.
-fn mean(run: impl Fn() -> Option<f64>) -> Option<f64> {
-    let (mut total, mut runs) = (0.0, 0);
-    while total < ENOUGH && runs < 10_000 {
-        total += run()?;
+    let (begun, mut runs) = (Instant::now(), 0);
+    while begun.elapsed().as_secs_f64() < enough {
+        run();
         runs += 1;
     }
-    Some(total / f64::from(runs))
+    begun.elapsed().as_secs_f64() / f64::from(runs)
 }
 
-/// A run of the verdicts, often enough for the kernel's clock, which may stand still for some milliseconds.
-fn verdicts(load: &Load, verdict: impl Fn(u8, &[u8]) -> Result<Verdict, Refusal>) -> f64 {
-    clock::each(0.05, || {
-        for asked in &load.questions {
-            assert_eq!(verdict(asked.asked, &asked.bytes), Ok(asked.verdict));
-        }
-    })
+fn least_of_five(mut run: impl FnMut()) -> f64 {
+    let mut time = || {
+        let begun = Instant::now();
+        run();
+        begun.elapsed().as_secs_f64()
+    };
+    (0..5).map(|_| time()).fold(f64::INFINITY, f64::min)
 }
 
-/// The same of the sheets written.
-fn written(load: &Load) -> f64 {
-    let mut room = vec![0; ROOM];
-    clock::each(0.05, || {
-        for asked in &load.questions {
-            let done = library::write(asked.asked, &asked.bytes, &mut room);
-            assert_eq!(done.map(|(verdict, _)| verdict), Ok(asked.verdict));
-        }
-    })
+/// The library's verdicts, or the oracle's.
+pub fn verdicts(load: &Load, verdict: impl Fn(u8, &[u8]) -> Result<Verdict, Refusal>) -> Option<Times> {
+    let all: Vec<&Asked> = load.questions.iter().collect();
+    times(&all, |asked| assert_eq!(verdict(asked.asked, &asked.bytes), Ok(asked.worked.verdict)))
 }
 
-/// And of the sheets checked.
-fn checked(load: &Load, sheets: &[Vec<u8>]) -> f64 {
-    clock::each(0.05, || {
-        for (asked, sheet) in load.questions.iter().zip(sheets) {
-            assert_eq!(library::check(asked.asked, &asked.bytes, sheet), Ok(asked.verdict));
-        }
-    })
+/// The library's sheets in a room of this length, with how many of them fit.
+pub fn written(load: &Load, length: usize) -> Option<(Times, usize)> {
+    let all: Vec<&Asked> = load.questions.iter().collect();
+    let fits = |asked: &Asked| asked.worked.whole && asked.worked.bytes.len() <= length;
+    let mut room = vec![0; length];
+    let times = times(&all, |asked| {
+        let right = match fits(asked) {
+            true => Ok((asked.worked.verdict, asked.worked.bytes.len())),
+            false => Err(Refusal { number: 21, place: 0 }),
+        };
+        assert_eq!(library::write(asked.asked, &asked.bytes, &mut room), right);
+    })?;
+    Some((times, all.into_iter().filter(|asked| fits(asked)).count()))
 }
 
-/// The time of a process with the whole load, less that of one with nothing to do.
-fn z3(load: &Load) -> Option<f64> {
-    let script: String = load.questions.iter().map(|asked| asked.script.as_str()).collect();
-    let (answers, _) = run_z3(&script)?;
-    hold(load, &answers);
-    let idle = mean_of_ten(|| run_z3(""))?;
-    let whole = mean_of_ten(|| run_z3(&script))?;
-    Some((whole - idle).max(1e-6))
-}
-
-fn mean_of_ten(run: impl Fn() -> Option<(String, f64)>) -> Option<f64> {
-    let seconds: Option<Vec<f64>> = (0..10).map(|_| run().map(|(_, seconds)| seconds)).collect();
-    seconds.map(|seconds| seconds.iter().sum::<f64>() / 10.0)
-}
-
-/// z3's answers must be right: only a no has an open formula, its last.
-fn hold(load: &Load, answers: &str) {
-    let mut answers = answers.lines();
-    for asked in &load.questions {
-        let lines: Vec<&str> = answers.by_ref().take(asked.formulas).collect();
-        let right = (1..=asked.formulas).map(|at| {
-            let open = asked.verdict == Verdict::No && at == asked.formulas;
-            ["unsat", "sat"][usize::from(open)]
-        });
-        assert!(lines.into_iter().eq(right), "z3 differs on {}", describe(asked));
-    }
-}
-
-fn describe(asked: &Asked) -> String {
-    let question = oracle::examples::hex(&asked.bytes);
-    format!("asked {}, question {question}", asked.asked)
-}
-
-/// z3's answers and processor seconds; nothing if it isn't installed.
-fn run_z3(script: &str) -> Option<(String, f64)> {
-    let mut z3 = Command::new("z3");
-    z3.args(["-smt2", "-in"]).stdin(Stdio::piped()).stdout(Stdio::piped());
-    let mut child = z3.spawn().ok()?;
-    let (mut input, mut output) = (child.stdin.take()?, child.stdout.take()?);
-    let script = script.to_string();
-    let feeder = std::thread::spawn(move || input.write_all(script.as_bytes()));
-    let mut answers = String::new();
-    output.read_to_string(&mut answers).ok()?;
-    feeder.join().ok()?.ok()?;
-    // it has ended but not been waited for: the kernel still knows its time
-    let folder = format!("/proc/{}", child.id());
-    while !read_to_string(format!("{folder}/stat")).ok()?.contains(") Z ") {
-        std::thread::yield_now();
-    }
-    let seconds = clock::used(&folder);
-    child.wait().ok()?;
-    Some((answers, seconds))
+/// The library's checks of the sheets that `ask` has room for, with the nodes of them all.
+pub fn checked(load: &Load) -> Option<(Times, u64)> {
+    let all: Vec<&Asked> = load.questions.iter().filter(|asked| asked.worked.whole).collect();
+    let nodes = all.iter().map(|asked| asked.worked.nodes).sum();
+    let times = times(&all, |asked| {
+        let Asked { bytes, worked, .. } = asked;
+        assert_eq!(library::check(asked.asked, bytes, &worked.bytes), Ok(worked.verdict));
+    })?;
+    Some((times, nodes))
 }

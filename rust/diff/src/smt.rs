@@ -1,6 +1,6 @@
 //! Formulas as SMT-LIB, for a solver to compare with.
 
-use oracle::formula::{Formula, Part, Place};
+use oracle::rules::formula::{Formula, Part, Place};
 use std::fmt::Write;
 
 /// One formula: satisfiable exactly if it is open.

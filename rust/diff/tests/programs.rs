@@ -1,14 +1,16 @@
 //! The programs on the recorded questions, as processes of their own.
 
-use oracle::examples::unhex;
+use diff::machine::command;
+use oracle::examples::{recorded, Recorded};
+use oracle::hex;
 use std::io::Write;
 use std::path::{Path, PathBuf};
-use std::process::{Command, Stdio};
+use std::process::Stdio;
 
 /// A program's standard output, with some words and some input.
 fn run(name: &str, words: &[&Path], input: &[u8]) -> String {
     let program = Path::new(env!("CARGO_MANIFEST_DIR")).join("../../target/bin").join(name);
-    let mut command = Command::new(&program);
+    let mut command = command(&program);
     command.args(words).stdin(Stdio::piped()).stdout(Stdio::piped());
     let started = command.spawn();
     let mut child =
@@ -18,24 +20,10 @@ fn run(name: &str, words: &[&Path], input: &[u8]) -> String {
     String::from_utf8(output.stdout).expect("text")
 }
 
-/// Question, what `ask` prints, both sheets (none where there is none).
-fn recorded() -> Vec<(Vec<u8>, String, [Vec<u8>; 2])> {
-    let text = include_str!("../../vectors/ask.tsv");
-    let fields = |line: &str| line.split('\t').map(str::to_string).collect::<Vec<String>>();
-    let row = |f: Vec<String>| {
-        (
-            unhex(&f[0]),
-            f[1].replace('|', "\n") + "\n",
-            [2, 3].map(|at| f.get(at).filter(|hex| *hex != "-").map_or(vec![], |hex| unhex(hex))),
-        )
-    };
-    text.lines().map(fields).map(row).collect()
-}
-
 #[test]
 fn ask_answers_the_recorded_questions() {
-    for (question, answer, _) in recorded() {
-        assert_eq!(run("ask", &[], &question), answer, "{question:?}");
+    for Recorded { question, printed, .. } in recorded() {
+        assert_eq!(run("ask", &[], &question), printed, "{}", hex(&question));
     }
 }
 
@@ -44,16 +32,14 @@ fn ask_answers_the_recorded_questions() {
 fn sheets_are_written_and_pass() {
     let folder = PathBuf::from(env!("CARGO_TARGET_TMPDIR"));
     let (asked_of, sheet_of) = (folder.join("question"), folder.join("sheet"));
-    for (question, answer, sheets) in recorded().into_iter().step_by(4) {
+    for Recorded { question, printed, sheets } in recorded().into_iter().step_by(4) {
         for (at, word) in ["irrelevant", "computable"].iter().enumerate() {
-            if sheets[at].is_empty() {
-                continue;
-            }
+            let Some(sheet) = &sheets[at] else { continue };
             std::fs::write(&asked_of, &question).expect("a file");
             let words = [asked_of.as_path(), Path::new(word), sheet_of.as_path()];
-            let line = answer.lines().nth(at).expect("a line each");
+            let line = printed.lines().nth(at).expect("a line each");
             assert_eq!(run("write_sheet", &words, &[]), format!("{line}\n"));
-            assert_eq!(std::fs::read(&sheet_of).expect("a sheet"), sheets[at]);
+            assert_eq!(std::fs::read(&sheet_of).expect("a sheet"), *sheet);
             let verdict = line.split(' ').nth(1).expect("a verdict");
             assert_eq!(
                 run("check_sheet", &words, &[]).lines().next(),

@@ -1,7 +1,7 @@
 //! The definitions over contents, word for word: what a list shows, what a change does, and when a
 //! change is irrelevant or computable. Slow, and meant for small ranges.
 
-use crate::question::*;
+use crate::rules::question::*;
 use std::collections::{BTreeMap, BTreeSet};
 use std::slice;
 

@@ -1,12 +1,12 @@
 //! Verdicts against the definitions over contents, all small contents being tried.
 
 use oracle::contents::{all_contents, breaks, computable, irrelevant};
+use oracle::rules::sheet::{judge, values_in, work, Verdict};
 use oracle::sample::{question, tiny, Chance};
-use oracle::sheet::{work, Verdict};
 use oracle::Question;
 
 fn said(question: &Question, asked: u8) -> bool {
-    work(question, asked, 0, u64::MAX).expect("no limit").verdict == Verdict::Yes
+    judge(question, asked) == Verdict::Yes
 }
 
 #[test]
@@ -26,6 +26,9 @@ fn verdicts_follow_the_definitions() {
     assert!(neither > 300 && computable > 300 && irrelevant > 300, "{counts:?}");
 }
 
+/// More than a no sheet needs.
+const MOST_ROOM: usize = 100;
+
 #[test]
 fn rows_of_a_no_sheet_break_the_claim() {
     let mut chance = Chance::new(2);
@@ -33,12 +36,8 @@ fn rows_of_a_no_sheet_break_the_claim() {
     for _ in 0..20_000 {
         let question = question(&mut chance);
         for asked in [1, 2] {
-            let Some(worked) = work(&question, asked, usize::MAX, 5_000) else {
-                continue;
-            };
-            if worked.verdict == Verdict::No {
-                let number = |four: &[u8]| i32::from_le_bytes(four.try_into().expect("four bytes"));
-                let values: Vec<i32> = worked.bytes[8..].chunks(4).map(number).collect();
+            if judge(&question, asked) == Verdict::No {
+                let values = values_in(&work(&question, asked, MOST_ROOM).bytes);
                 let rows: Vec<_> = values.chunks(question.columns.len()).map(|row| row.to_vec()).collect();
                 assert!(breaks(&question, asked, &rows), "{question:?}");
                 shown += 1;

@@ -1,7 +1,8 @@
 //! Cycles and greatest solutions against plain search.
 
-use oracle::facts::{Edges, Solved};
-use oracle::formula::{Formula, Part, Vertex};
+use oracle::rules::edges::Edges;
+use oracle::rules::facts::Solved;
+use oracle::rules::formula::{Formula, Part, Vertex};
 use oracle::sample::Chance;
 
 const VERTICES: usize = 4;

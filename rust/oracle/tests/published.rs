@@ -1,8 +1,8 @@
 //! The published examples: our verdicts, and a second opinion on bytes, lengths and rows.
 
-use oracle::examples::{cases, hex, load, published, Example};
-use oracle::sheet::work;
-use oracle::{check, encode, verdict, Verdict};
+use oracle::examples::{cases, load, published, Example};
+use oracle::rules::sheet::{values_in, work};
+use oracle::{check, encode, hex, verdict, Verdict};
 
 /// Name, question in hexadecimal, and for each asked: verdict, length, open formula and rows.
 const OPINION: &str = include_str!("../../vectors/published.tsv");
@@ -16,11 +16,10 @@ fn word(verdict: Verdict) -> &'static str {
 
 /// As `yes 23`, or `no 32 f0 9,10,9,9 / 9,30,9,9`.
 fn described(example: &Example, asked: u8) -> String {
-    let worked = work(&example.question, asked, usize::MAX, u64::MAX).expect("no limit");
-    let mut text = format!("{} {}", word(worked.verdict), worked.length);
+    let worked = work(&example.question, asked, usize::MAX);
+    let mut text = format!("{} {}", word(worked.verdict), worked.bytes.len());
     if worked.verdict == Verdict::No {
-        let number = |four: &[u8]| i32::from_le_bytes(four.try_into().expect("four bytes")).to_string();
-        let values: Vec<String> = worked.bytes[8..].chunks(4).map(number).collect();
+        let values: Vec<String> = values_in(&worked.bytes).iter().map(i32::to_string).collect();
         let rows = values.chunks(example.question.columns.len()).map(|row| row.join(","));
         let rows = rows.collect::<Vec<String>>().join(" / ");
         text += &format!(" f{} {rows}", worked.bytes[7]);
@@ -64,8 +63,8 @@ fn appendix_b() {
     let count = |star: bool| all.iter().filter(|e| e.name.ends_with('*') == star).count();
     assert_eq!((count(false), count(true)), (35, 32));
     let longest = all.iter().find(|e| e.name == "U11 PartOrder*").expect("U11");
-    let worked = work(&longest.question, 2, usize::MAX, u64::MAX).expect("no limit");
-    assert_eq!((worked.length, worked.nodes), (2_632, 1_470));
+    let worked = work(&longest.question, 2, usize::MAX);
+    assert_eq!((worked.bytes.len(), worked.nodes), (2_632, 1_470));
 }
 
 /// Section 3.4's cycle 0, L, K stands in the sheet of the row (14,32).
@@ -74,7 +73,7 @@ fn published_cycle() {
     let sheet = [0x56, 0x55, 0x53, 1, 0, 1, 0, 3, 3, 3, 3, 3, 2, 3, 0, 5, 4, 1, 1, 1, 1, 1];
     let all = published();
     let example = all.iter().find(|e| e.name == "002-3.5 ins 14,32").expect("the row");
-    let worked = work(&example.question, 1, usize::MAX, u64::MAX).expect("no limit");
+    let worked = work(&example.question, 1, usize::MAX);
     assert_eq!(worked.bytes, sheet);
     assert_eq!(check(1, &encode(&example.question), &sheet), Ok(Verdict::Yes));
 }

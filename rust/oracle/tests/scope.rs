@@ -1,8 +1,9 @@
 //! The cases and bytes that the scope itself names.
 
 use oracle::examples::{shortcuts, twelve};
+use oracle::rules::sheet::values_in;
+use oracle::rules::trouble::trouble;
 use oracle::sample::deepest;
-use oracle::trouble::trouble;
 use oracle::{check, encode, read, verdict, write, Refusal, Verdict};
 
 fn case(name: &str) -> Vec<u8> {
@@ -25,9 +26,7 @@ fn sheet(question: &[u8], asked: u8) -> Vec<u8> {
 }
 
 fn rows(name: &str, asked: u8) -> Vec<i32> {
-    let sheet = sheet(&case(name), asked);
-    let number = |four: &[u8]| i32::from_le_bytes(four.try_into().expect("four bytes"));
-    sheet[8..].chunks(4).map(number).collect()
+    values_in(&sheet(&case(name), asked))
 }
 
 #[test]

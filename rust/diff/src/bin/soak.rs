@@ -1,11 +1,10 @@
 //! A long seeded run of the library against the oracle: `soak SECONDS [SEED]`.
 
-use diff::compare::{brute, round, Difference, Tally};
+use diff::compare::{brute, hard_round, round, Difference, Tally};
+use oracle::examples::ASK_ROOM;
 use oracle::sample::Chance;
 use std::process::ExitCode;
 use std::time::{Duration, Instant};
-
-const MOST_NODES: u64 = 20_000;
 
 fn main() -> ExitCode {
     let numbers: Option<Vec<u64>> = std::env::args().skip(1).map(|word| word.parse().ok()).collect();
@@ -47,10 +46,11 @@ fn run(time: Duration, seed: u64, tally: &mut Tally) -> Result<(), Difference> {
         }
         // a seed for each round: a difference can be seen again by itself
         let mut chance = Chance::new(seed.wrapping_mul(1_000_000_007).wrapping_add(at));
-        let found = round(&mut chance, MOST_NODES, tally).and_then(|()| match at % 50 {
+        let found = match at % 50 {
             0 => brute(&mut chance, tally),
-            _ => Ok(()),
-        });
+            1..=5 => hard_round(&mut chance, ASK_ROOM, tally),
+            _ => round(&mut chance, ASK_ROOM, tally),
+        };
         found.map_err(|difference| format!("round {at}: {difference}"))?;
     }
     Ok(())
@@ -58,5 +58,5 @@ fn run(time: Duration, seed: u64, tally: &mut Tally) -> Result<(), Difference> {
 
 fn figures(tally: &Tally) -> String {
     let Tally { questions, too_long, nodes, rooms, sheets, .. } = tally;
-    format!("{questions} questions ({too_long} too long), {rooms} rooms, {sheets} sheets, {nodes} nodes")
+    format!("{questions} questions, {rooms} rooms ({too_long} sheets longer than all), {sheets} sheets, {nodes} nodes")
 }

@@ -1,9 +1,9 @@
 //! Report 000's Appendix B: fourteen updates against the derived relations that fit, and the insert
 //! of its conclusion. All columns of every view are visible; names are codes 0..9, regions 10..39.
 
+use super::sketch::Sketch;
 use super::Example;
-use crate::question::Question;
-use crate::sketch::Sketch;
+use crate::rules::question::Question;
 
 const REGIONS: [(&str, i32); 3] = [("East", 10), ("Cent", 20), ("West", 30)];
 

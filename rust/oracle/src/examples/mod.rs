@@ -1,18 +1,22 @@
 //! Questions with known answers: the scope's twelve cases and the published examples of the reports
-//! 000 (Blakeley, Coburn, Larson: TR 235) and 002 (Blakeley: CS-87-32).
+//! 000 (Blakeley, Coburn, Larson: TR 235) and 002 (Blakeley: CS-87-32), as text; and recorded answers.
 
 mod load;
+mod recorded;
 mod report_000;
 mod report_002;
+mod sketch;
 mod twelve;
 
 pub use load::{load, xyz};
+pub use recorded::{hard, printed, recorded, Recorded, ASK_ROOM};
 pub use report_000::report_000;
 pub use report_002::report_002;
 pub use twelve::{shortcuts, twelve};
 
-use crate::encode::encode;
-use crate::question::Question;
+use crate::hex::hex;
+use crate::rules::encode::encode;
+use crate::rules::question::Question;
 
 /// A question beside what is said of it. Verdicts are written `irrelevant/computable`: `no/yes`, with
 /// `-` where a report says nothing that answers the question.
@@ -62,17 +66,6 @@ impl Example {
         let pairs = self.report.split('/').zip(self.right.split('/'));
         pairs.into_iter().any(|(said, right)| said != "-" && said != right)
     }
-}
-
-/// Bytes in hexadecimal.
-pub fn hex(bytes: &[u8]) -> String {
-    bytes.iter().map(|byte| format!("{byte:02x}")).collect()
-}
-
-/// Bytes from hexadecimal.
-pub fn unhex(text: &str) -> Vec<u8> {
-    let pair = |at: usize| u8::from_str_radix(&text[at..at + 2], 16).expect("hexadecimal");
-    (0..text.len()).step_by(2).map(pair).collect()
 }
 
 /// The cases of a text that a program reads: its lines but the empty ones and those that start with `#`.

@@ -1,7 +1,7 @@
 //! The numbered examples of report 000. Ranges that the report leaves open are chosen.
 
+use super::sketch::Sketch;
 use super::Example;
-use crate::sketch::Sketch;
 
 const CONTROL: &str = "a control beside the example: the report says nothing of it";
 

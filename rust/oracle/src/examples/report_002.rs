@@ -1,7 +1,7 @@
 //! The examples of report 002 that report 000 lacks. Ranges that the report leaves open are chosen.
 
+use super::sketch::Sketch;
 use super::Example;
-use crate::sketch::Sketch;
 
 const PART: &str = "a part of the example, asked alone";
 

@@ -1,8 +1,8 @@
 //! The scope's twelve cases, and questions on which a shortcut that it warns of would go wrong.
 
+use super::sketch::Sketch;
 use super::Example;
-use crate::question::Question;
-use crate::sketch::Sketch;
+use crate::rules::question::Question;
 
 /// KEY and CLIENT.
 const TABLES: &str = "K 0..9 v, V 0..30; N 0..9 v, Q 0..9";

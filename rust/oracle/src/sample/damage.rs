@@ -1,8 +1,8 @@
 //! Damaged bytes: cut, lengthened, or with wrong values in places.
 
 use super::Chance;
-use crate::encode::encode;
-use crate::question::*;
+use crate::rules::encode::encode;
+use crate::rules::question::*;
 
 /// Numbers at and just beyond the limits of values and constants.
 const EDGES: [i32; 10] = [

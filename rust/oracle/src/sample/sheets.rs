@@ -1,11 +1,12 @@
 //! Sheets that pass though the writer would not write them.
 
 use super::Chance;
-use crate::facts::{edge, Edges};
-use crate::formula::Formula;
-use crate::question::Question;
-use crate::sheet::{Verdict, Worked};
-use crate::trouble::trouble;
+use crate::rules::edges::Edges;
+use crate::rules::facts::edge;
+use crate::rules::formula::Formula;
+use crate::rules::question::Question;
+use crate::rules::sheet::{values_in, Verdict, Worked};
+use crate::rules::trouble::trouble;
 
 /// A sheet with the same verdict as the writer's: other leaves and branches, or other rows.
 pub fn other_sheet(chance: &mut Chance, question: &Question, asked: u8, worked: &Worked) -> Vec<u8> {
@@ -25,8 +26,7 @@ pub fn other_sheet(chance: &mut Chance, question: &Question, asked: u8, worked: 
 /// Lowers values one by one as long as the formula is met.
 fn other_rows(chance: &mut Chance, question: &Question, formula: &Formula, sheet: &[u8]) -> Vec<u8> {
     let count = question.columns.len();
-    let number = |four: &[u8]| i32::from_le_bytes(four.try_into().expect("four bytes"));
-    let mut values: Vec<i32> = sheet[8..].chunks(4).map(number).collect();
+    let mut values = values_in(sheet);
     for _ in 0..4 * values.len() {
         let at = chance.below(values.len());
         let column = question.columns[at % count];

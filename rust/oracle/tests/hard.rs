@@ -1,0 +1,80 @@
+//! The search for a verdict against the trees, on hard questions and others.
+
+use oracle::rules::grow::{first_open_leaf, grow, Page, Stop};
+use oracle::rules::sheet::{judge, work};
+use oracle::rules::trouble::trouble;
+use oracle::sample::{changed, hard, question, Chance};
+use oracle::{encode, read, Question, Verdict};
+use std::time::{Duration, Instant};
+
+const ROOM: usize = 4_096;
+
+/// The verdict as the trees alone tell it, walked in order up to the first open leaf, with the
+/// greatest values there; nothing if they don't fit the room.
+fn walked(question: &Question, asked: u8) -> Option<(Verdict, Vec<i64>)> {
+    let mut page = Page::new(ROOM);
+    for formula in trouble(question, asked) {
+        match grow(&formula, &mut page) {
+            Ok(()) => {}
+            Err(Stop::Full) => return None,
+            Err(Stop::Open(facts)) => {
+                let leaf = first_open_leaf(&formula).expect("an open leaf");
+                let values = |facts: &dyn Fn(usize) -> i64| -> Vec<i64> { (0..17).map(facts).collect() };
+                let greatest = values(&|vertex| facts.greatest(vertex));
+                assert_eq!(values(&|vertex| leaf.greatest(vertex)), greatest, "{question:?}");
+                return Some((Verdict::No, greatest));
+            }
+        }
+    }
+    Some((Verdict::Yes, Vec::new()))
+}
+
+#[test]
+fn the_search_agrees_with_the_trees() {
+    let mut chance = Chance::new(31);
+    let mut counts = [0; 3];
+    for at in 0..6_000 {
+        let question = match at % 2 {
+            0 => hard(&mut chance),
+            _ => question(&mut chance),
+        };
+        for asked in [1, 2] {
+            let said = judge(&question, asked);
+            match walked(&question, asked) {
+                None => counts[2] += 1,
+                Some((verdict, _)) => {
+                    assert_eq!(said, verdict, "{question:?}");
+                    counts[verdict as usize] += 1;
+                }
+            }
+        }
+    }
+    assert!(counts.iter().all(|&count| count > 500), "{counts:?}");
+}
+
+#[test]
+fn hard_questions_are_sound_and_stay_so() {
+    let mut chance = Chance::new(32);
+    for _ in 0..500 {
+        let mut question = hard(&mut chance);
+        for _ in 0..20 {
+            assert_eq!(read(&encode(&question)).as_ref(), Ok(&question));
+            question = changed(&mut chance, &question);
+        }
+    }
+}
+
+/// Far more than they take, far less than without the search.
+#[test]
+fn hard_questions_are_answered_soon() {
+    let mut chance = Chance::new(33);
+    for _ in 0..1_000 {
+        let question = hard(&mut chance);
+        for asked in [1, 2] {
+            let begun = Instant::now();
+            let worked = work(&question, asked, ROOM);
+            assert_eq!(worked.verdict, judge(&question, asked));
+            assert!(begun.elapsed() < Duration::from_secs(5), "{question:?}");
+        }
+    }
+}
