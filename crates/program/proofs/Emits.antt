@@ -7,7 +7,7 @@ use native.Mathlib.Omega.{arith}
 use lib.ListN.{length, take, set, length-append}
 use lib.Seq.{take-suc-set}
 use Rattle.page_formulas.specs.Program.{place, andI, orI, notI, trueI, falseI, Place}
-use Rattle.page_formulas.specs.Kinds.{kindsOf}
+use Rattle.page_formulas.specs.Kinds.{kindOf, kindsOf}
 use Rattle.page_formulas.specs.Program as P
 use Rattle.program.specs.declared.types.Program.{Program}
 use Rattle.program.specs.declared.types.Joint.{Joint}
@@ -25,7 +25,7 @@ map-append f (a ∷ s) t = ap (λ l. f a ∷ l) (map-append f s t)
 pub kinds-append : (x y : P.Program) → kindsOf (x ++ y) ≡ kindsOf x ++ kindsOf y
 unfolding kindsOf
 kinds-append [] y = refl
-kinds-append (i ∷ x) y = ap (λ l. P.kindOf i ∷ l) (kinds-append x y)
+kinds-append (i ∷ x) y = ap (λ l. kindOf i ∷ l) (kinds-append x y)
 
 pub places-append : (x y : P.Program) → P.places (x ++ y) ≡ P.places x ++ P.places y
 unfolding P.places

@@ -10,6 +10,7 @@ use Rattle.program.specs.declared.types.Program.{Program}
 use Rattle.program.specs.declared.types.Joint.{Joint}
 use Rattle.program.specs.declared.types.Joint.the-variants.{And, Or, Not, True, False}
 use Rattle.program.specs.declared.types.Term.{Term}
+use Rattle.page_formulas.specs.Kinds.{kindsOf}
 
 abbrev pub instrOf : Joint → P.Instr
 instrOf And = P.andI
@@ -35,7 +36,7 @@ pub record Room (p : Program) (n m : ℕ) : Type 0 where
 
 -- r is p with the instructions x after it
 pub record Emits (p r : Program) (x : P.Program) : Type 0 where
-  pub kinds : take (r .count) (r .kinds) ≡ take (p .count) (p .kinds) ++ P.kindsOf x
+  pub kinds : take (r .count) (r .kinds) ≡ take (p .count) (p .kinds) ++ kindsOf x
   pub left : take (r .places) (r .left) ≡ take (p .places) (p .left) ++ map (λ a. a .left) (P.places x)
   pub right : take (r .places) (r .right) ≡ take (p .places) (p .right) ++ map (λ a. a .right) (P.places x)
   pub most : take (r .places) (r .most) ≡ take (p .places) (p .most) ++ map (λ a. a .most) (P.places x)
@@ -55,7 +56,7 @@ pub record Near (t : Term) : Type 0 where
 
 -- it is compiled: its used fields are the program's
 pub record Means (r : Program) (x : P.Program) : Type 0 where
-  pub kinds : take (r .count) (r .kinds) ≡ P.kindsOf x
+  pub kinds : take (r .count) (r .kinds) ≡ kindsOf x
   pub left : take (r .places) (r .left) ≡ map (λ a. a .left) (P.places x)
   pub right : take (r .places) (r .right) ≡ map (λ a. a .right) (P.places x)
   pub most : take (r .places) (r .most) ≡ map (λ a. a .most) (P.places x)
