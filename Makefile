@@ -1,7 +1,7 @@
 # The commands of the project. `make test` is the gate.
 SHELL := /bin/bash
 .SHELLFLAGS := -euo pipefail -c
-.PHONY: test house programs run twelve published refusals lib soak slow bench fmt
+.PHONY: test house programs run twelve published refusals lib timed soak slow bench fmt
 
 cargo = cargo $(1) --quiet --offline --release --manifest-path rust/Cargo.toml
 
@@ -48,13 +48,22 @@ SEED ?= 1
 soak: lib
 	$(call cargo,run) -p diff --bin soak -- $(LONG) $(SEED)
 
+# The library as it is timed: on a machine that isn't x86-64, the same code compiled for that machine.
+ifeq ($(shell uname -m),x86_64)
+timed: lib
+else
+timed:
+	rust/native-lib.sh
+bench slow: export SLUSHTROWEL_LIB := $(CURDIR)/target/native
+endif
+
 # A search for the slowest answers, for so many seconds from a seed: the worst of each routine with its question.
 SECONDS ?= 120
-slow: lib
+slow: timed
 	$(call cargo,run) -p diff --bin slow -- $(SECONDS) $(SEED)
 
 # Times of verdicts, sheets and checks, verdicts beside z3's; and by the number of vertices. Installs z3 if it isn't there.
-bench: lib
+bench: timed
 	rust/bench-setup.sh
 	$(call cargo,run) -p diff --bin bench
 	$(call cargo,run) -p diff --bin pace

@@ -10,7 +10,7 @@
  * Build the library with `make lib` and link target/staticlib/libcapi.a (x86-64). It calls nothing
  * but memcpy, memmove and memset (no allocation, no input or output, no global state), so the
  * functions may be called from any thread at once. They need some stack, because sheets and formulas
- * are walked by recursion: 1 MB at the most, as measured (docs/notes/stack.md).
+ * are walked by recursion: 2 MB is enough, as measured (docs/notes/stack.md).
  *
  * Every function returns 0, or the number of the refusal:
  *

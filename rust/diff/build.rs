@@ -19,11 +19,27 @@ fn main() {
         return missing(&archive);
     }
     let machine = var("CARGO_CFG_TARGET_ARCH").unwrap_or_default();
-    if machine == "x86_64" {
+    println!("cargo::rustc-check-cfg=cfg(carried)");
+    if runs_on(&archive, &machine) {
         println!("cargo::rustc-link-search=native={}", folder.display());
         println!("cargo::rustc-link-lib=static=capi");
-    } else if let Err(error) = carrier(&here, &archive, &machine) {
+        return;
+    }
+    println!("cargo::rustc-cfg=carried");
+    if let Err(error) = carrier(&here, &archive, &machine) {
         println!("cargo::error=the library is for x86-64, and this machine can't lend it: {error}");
+    }
+}
+
+/// Whether the archive's code is this machine's, by the number of the first object in it (ELF's `e_machine`).
+fn runs_on(archive: &Path, machine: &str) -> bool {
+    let bytes = std::fs::read(archive).unwrap_or_default();
+    let object = bytes.windows(4).position(|four| four == b"\x7fELF");
+    let number = object.and_then(|at| bytes.get(at + 18..at + 20)).map(|two| (two[0], two[1]));
+    match machine {
+        "x86_64" => number == Some((62, 0)),
+        "aarch64" => number == Some((183, 0)),
+        _ => false,
     }
 }
 

@@ -13,7 +13,8 @@ use Rattle.page_formulas.specs.Program.{Values, Place, test, truth, places}
 use Rattle.page_formulas.specs.Kinds.{nowhere, knownKinds}
 use Rattle.page_formulas.specs.Known.{Three, fails, passes, open?, known}
 use Rattle.page_formulas.specs.Formulas.{Formula}
-use Rattle.page_formulas.proofs.Knows.{Agrees, Says, Sure, known-says, known-sure, known-kinds}
+use Rattle.page_formulas.specs.Said.{Agrees, Says, Sure}
+use Rattle.page_formulas.proofs.Knows.{known-says, known-sure, known-kinds}
 use Rattle.program.specs.Lent.{Lent}
 use Rattle.checker_rows.specs.NoSheet.{testAt, Tested}
 use Rattle.program.proofs.Lends.{lent-length, lent-place}

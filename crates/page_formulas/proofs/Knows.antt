@@ -9,18 +9,7 @@ use lib.ListN.{length}
 use Rattle.page_formulas.specs.Program.{Values, Place, test, place, andI, orI, notI, trueI, falseI, Program, two, one, run, top, truth, places}
 use Rattle.page_formulas.specs.Kinds.{kindsOf, runKinds, knownKinds}
 use Rattle.page_formulas.specs.Known.{Three, fails, passes, open?, sure, and3, or3, not3, later, next, run3, top3, known}
-
--- the values give each decided place its decision
-abbrev pub Agrees : Values → List Place → List Bool → Type 0
-Agrees ρ [] ds = Unit {0}
-Agrees ρ (p ∷ ps) [] = Unit {0}
-Agrees ρ (p ∷ ps) (d ∷ ds) = (test ρ p ≡ d) × Agrees ρ ps ds
-
--- what is known is so
-abbrev pub Says : Three → Bool → Type 0
-Says fails b = b ≡ false
-Says passes b = b ≡ true
-Says open? b = Unit {0}
+use Rattle.page_formulas.specs.Said.{Agrees, Says, Sure}
 
 abbrev SaysAll : List Three → List Bool → Type 0
 SaysAll [] [] = Unit {0}
@@ -93,12 +82,6 @@ says-top (t ∷ st) (b ∷ bs) h = h .0
 -- what is known of a formula holds of all values that agree with the decisions
 pub known-says : (ρ : Values) (p : Program) (ds : List Bool) → Agrees ρ (places p) ds → Says (known p ds) (truth ρ p)
 known-says ρ p ds a = says-top (run3 ds p []) (run ρ p []) (says-run ρ p ds a [] [] tt)
-
--- with every place decided the formula is known
-abbrev pub Sure : Three → Type 0
-Sure fails = Unit {0}
-Sure passes = Unit {0}
-Sure open? = ⊥
 
 abbrev SureAll : List Three → Type 0
 SureAll [] = Unit {0}

@@ -5,6 +5,7 @@ pub mod Vertices
 pub mod Formulas
 pub mod Known
 pub mod Kinds
+pub mod Said
 pub mod Form
 pub mod Postfix
 pub mod Proper

@@ -20,7 +20,8 @@ use Rattle.page_formulas.specs.Formulas.{Formula}
 use Rattle.page_formulas.specs.Known.{Three, fails, passes, open?, known}
 use Rattle.page_formulas.specs.Program.{Values, test, Place, places}
 use Rattle.page_formulas.specs.Vertices.{InRange, Ranges, present}
-use Rattle.page_formulas.proofs.Knows.{Agrees, known-sure}
+use Rattle.page_formulas.specs.Said.{Agrees}
+use Rattle.page_formulas.proofs.Knows.{known-sure}
 use Rattle.page_formulas.specs.Proper.{SmallRange, SmallPlace}
 use Rattle.page_questions.specs.Accepted.{Every}
 use Rattle.page_sheets.specs.Facts.{start, decide}

@@ -18,7 +18,8 @@ use Rattle.page_formulas.specs.Formulas.{Formula}
 use Rattle.page_formulas.specs.Known.{Three, fails, passes, open?, known}
 use Rattle.page_formulas.specs.Program.{Values, Place, truth, places}
 use Rattle.page_formulas.specs.Vertices.{InRange, Ranges, present}
-use Rattle.page_formulas.proofs.Knows.{known-says, Sure, known-sure}
+use Rattle.page_formulas.proofs.Knows.{known-says, known-sure}
+use Rattle.page_formulas.specs.Said.{Sure}
 use Rattle.page_formulas.specs.Proper.{SmallPlace}
 use Rattle.page_questions.specs.Accepted.{Every}
 use Rattle.page_sheets.specs.Facts.{start, decide}

@@ -18,7 +18,7 @@ use Rattle.page_walks.specs.Walk.{closed, Sat}
 use Rattle.page_walks.proofs.Grids.{tighten-keeps, tighten-le, tighten-sized, tighten-new, blank-sized, blank-far, Misses, missing-closed}
 use Rattle.page_formulas.specs.Program.{Values, test, Place}
 use Rattle.page_formulas.specs.Vertices.{Within, InRange, Ranges, isSome, present}
-use Rattle.page_formulas.proofs.Knows.{Agrees}
+use Rattle.page_formulas.specs.Said.{Agrees}
 use Rattle.page_formulas.specs.Proper.{SmallRange, SmallPlace}
 use Rattle.page_questions.specs.Accepted.{Every}
 use Rattle.page_sheets.specs.Facts.{start, confine, confineAll, decide}

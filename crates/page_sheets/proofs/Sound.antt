@@ -15,7 +15,8 @@ use Rattle.page_formulas.specs.Formulas.{Formula}
 use Rattle.page_formulas.specs.Known.{Three, fails, passes, open?, known}
 use Rattle.page_formulas.specs.Program.{Values, test, Place, truth, places}
 use Rattle.page_formulas.specs.Vertices.{InRange, Ranges, present}
-use Rattle.page_formulas.proofs.Knows.{Agrees, Says, known-says}
+use Rattle.page_formulas.specs.Said.{Agrees, Says}
+use Rattle.page_formulas.proofs.Knows.{known-says}
 use Rattle.page_formulas.specs.Proper.{SmallRange}
 use Rattle.page_questions.specs.Accepted.{Every}
 use Rattle.page_sheets.specs.Facts.{start, decide}

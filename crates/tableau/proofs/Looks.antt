@@ -15,7 +15,8 @@ use Rattle.page_walks.specs.Grid.{Grid, weight}
 use Rattle.page_walks.specs.Walk.{Sat}
 use Rattle.page_formulas.specs.Program.{Values, Place, test}
 use Rattle.page_formulas.specs.Known.{Three, fails, passes, open?, not3}
-use Rattle.page_formulas.proofs.Knows.{Says, says-and, says-or, says-not}
+use Rattle.page_formulas.specs.Said.{Says}
+use Rattle.page_formulas.proofs.Knows.{says-and, says-or, says-not}
 use Rattle.truth.specs.declared.knowing.Truth.{Truth}
 use Rattle.truth.specs.declared.knowing.Truth.the-variants.{Fails}
 use Rattle.truth.specs.Cells.{threeOf, joinedBy}

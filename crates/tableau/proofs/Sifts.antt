@@ -10,7 +10,7 @@ use Rattle.page_walks.specs.Grid.{Grid, weight}
 use Rattle.page_walks.specs.Walk.{Sat}
 use Rattle.page_formulas.specs.Program.{Values}
 use Rattle.page_formulas.specs.Known.{Three, fails, passes, open?}
-use Rattle.page_formulas.proofs.Knows.{Says}
+use Rattle.page_formulas.specs.Said.{Says}
 use Rattle.truth.specs.declared.knowing.Truth.{Truth}
 use Rattle.truth.specs.declared.knowing.Truth.the-variants.{Fails}
 use Rattle.truth.specs.Cells.{threeOf}

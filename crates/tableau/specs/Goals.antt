@@ -15,7 +15,7 @@ use Rattle.page_formulas.specs.Program.{Values, Place, Program, truth}
 use Rattle.page_formulas.specs.Known.{Three, fails, passes, open?}
 use Rattle.page_formulas.specs.Vertices.{InRange}
 use Rattle.page_formulas.specs.Formulas.{Formula}
-use Rattle.page_formulas.proofs.Knows.{Says}
+use Rattle.page_formulas.specs.Said.{Says}
 use Rattle.truth.specs.declared.knowing.Truth.{Truth}
 use Rattle.truth.specs.declared.knowing.Truth.the-variants.{Fails}
 use Rattle.truth.specs.Cells.{threeOf}

@@ -4,16 +4,16 @@
 
 use oracle::{Refusal, Verdict};
 
-#[cfg(target_arch = "x86_64")]
+#[cfg(not(carried))]
 #[path = "direct.rs"]
 mod raw;
 
-#[cfg(not(target_arch = "x86_64"))]
+#[cfg(carried)]
 #[path = "carried.rs"]
 mod raw;
 
 /// Whether the library runs in an emulator: then its times aren't its own.
-pub const EMULATED: bool = cfg!(not(target_arch = "x86_64"));
+pub const EMULATED: bool = cfg!(carried);
 
 /// Says so, where it is so.
 pub fn warn_of_emulation() {
@@ -23,7 +23,7 @@ pub fn warn_of_emulation() {
 }
 
 /// What the results hold before a call: neither value is one that a call may leave.
-#[cfg_attr(not(target_arch = "x86_64"), allow(dead_code))]
+#[cfg_attr(carried, allow(dead_code))]
 const UNSET: (u8, u64) = (0xee, 0xeeee_eeee_eeee_eeee);
 
 /// What a call leaves: the returned number, the verdict byte, the place or length.
