@@ -7,7 +7,7 @@ ghost use Rattle.page_meaning.specs.Limits.{mostVertices};
 ghost use Rattle.page_walks.specs.Grid.{blank, row, weight, farN};
 ghost use Rattle.page_walks.specs.Sizes.{filled, tabled, wide, Bounded, Sized, RowWithin, AllWithin};
 ghost use Rattle.page_walks.specs.Search.{least};
-ghost use Rattle.page_walks.specs.Near.{relax, nearBlank};
+ghost use Rattle.page_walks.specs.Near.{relax, nearBlank, Triangle};
 use grid::FAR;
 use grid::VERTICES;
 use grid::lesser;
@@ -36,17 +36,26 @@ pub fn relax_row(row: &mut [i64], on: &[i64], n: usize, reach: i64)
     }
 }
 
-// The least sums with a new edge from b to a of weight k, in the grid that is lent.
+// The least sums with a new edge from b to a of weight k, in the grid that is lent. A row that the edge doesn't lower at its end stays as it
+// is: by the triangle law nothing else in it is lowered.
 pub fn relax_in(near: &mut [[i64; VERTICES]; VERTICES], n: usize, b: usize, a: usize, k: i64)
     requires { ⌜ (n ≤ mostVertices) × (b < n) × (a < n) × Sized mostVertices (now near) ⌝ }
     requires { ⌜ Bounded farN k ⌝ }
     requires { ⌜ AllWithin farN n (now near) ⌝ }
+    requires { ⌜ Triangle n (weight (now near)) ⌝ }
     ensures { λ _. ⌜ now (near .exit) ≡ tabled (relax (weight (now (near .entry))) b a k) n (now (near .entry)) ⌝ }
 {
     let on = near[a];
-    for u in 0..n {
+    let mut u: usize = 0;
+    while u < n {
         let reach = near[u][b] + k;
+        let there = near[u][a];
+        if there <= reach {
+            u += 1;
+            continue;
+        }
         relax_row(&mut near[u], &on, n, reach);
+        u += 1;
     }
 }
 
@@ -61,6 +70,7 @@ pub fn relax(
     requires { ⌜ (n ≤ mostVertices) × (b < n) × (a < n) ⌝ }
     requires { ⌜ Bounded farN k ⌝ }
     requires { ⌜ AllWithin farN n near ⌝ }
+    requires { ⌜ Triangle n (weight near) ⌝ }
     ensures { λ r. ⌜ r ≡ tabled (relax (weight near) b a k) n near ⌝ }
 {
     let mut h = near;

@@ -42,6 +42,17 @@ unfolding filled
 filled-same f g zero l h = refl
 filled-same f g (suc n) l h = ap₂ (λ m x. set m n x) (filled-same f g n l (λ i k. h i (omega arith))) (h n (omega arith))
 
+-- an entry written as it was
+pub set-own : {A : Type 0} (l : List A) (i : ℕ) (d : A) → i < length l → set l i (getD l i d) ≡ l
+set-own [] i d h = absurd (omega arith)
+set-own (x ∷ l) zero d h = refl
+set-own (x ∷ l) (suc i) d h = ap (λ m. x ∷ m) (set-own l i d (omega arith))
+
+pub filled-own : {A : Type 0} (f : ℕ → A) (n : ℕ) (l : List A) (d : A) → ((i : ℕ) → i < n → f i ≡ getD l i d) → n ≤ length l → filled f n l ≡ l
+unfolding filled
+filled-own f zero l d e h = refl
+filled-own f (suc n) l d e h = ap₂ (λ m x. set m n x) (filled-own f n l d (λ i k. e i (omega arith)) (omega arith)) (e n (omega arith)) ∙ set-own l n d (omega arith)
+
 -- a loop writes one entry more
 pub filled-more : {A : Type 0} (f : ℕ → A) (n : ℕ) (l m : List A) (x : A) → m ≡ filled f n l → x ≡ f n → set m n x ≡ filled f (n + 1) l
 unfolding filled

@@ -34,6 +34,10 @@ pub record Tightened (w : Weights) (b a : ℕ) (k : ℤ) (w′ : Weights) : Type
   pub only : (z : ℤ) (u v : ℕ) → z ≤ℤ w u v → (u ≡ b → v ≡ a → z ≤ℤ k) → z ≤ℤ w′ u v
 
 module _ (N : ℕ) where
+  -- no way round is less
+  abbrev pub Triangle : Weights → Type 0
+  Triangle near = (u v x : ℕ) → u < N → v < N → x < N → near u x ≤ℤ (near u v +ℤ near v x)
+
   -- a walk from u to v of at most z
   abbrev pub Walked : Weights → ℕ → ℕ → ℤ → Type 0
   Walked w u v z = (p : List ℕ) × Below N p × (from w u p v ≤ℤ z)

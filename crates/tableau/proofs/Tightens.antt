@@ -1,13 +1,11 @@
 -- Laws of the closure by itself: its entries are small, and one fact more keeps it.
 use Prim.Native.Nat.{ℕ, suc, _+_, _≤_, _<_}
-use mathlib.Core.Path.{_≡_, refl, sym, ap, _∙_, subst}
+use mathlib.Core.Path.{_≡_, sym, ap, _∙_, subst}
 use mathlib.Core.Logic.{_⊎_, inl, inr}
 use mathlib.Core.Bool.{Bool, true, false}
 use mathlib.Core.List.{List, []}
 use native.Mathlib.Omega.{arith}
-use native.Mathlib.Decide.{ℕ-discrete}
-use lib.ListN.{length, getD, set, length-set}
-use lib.Seq.{getD-set-same, getD-set-other}
+use lib.ListN.{getD}
 use lib.IntN.{ℤ, pos, negsuc, _+ℤ_, negℤ}
 use lib.Signed.{_≤ℤ_, _<ℤ_, leZ, ltZ}
 use mir.Syntax.{w64}
@@ -17,26 +15,16 @@ use Rattle.page_numbers.specs.Numbers.{minZ}
 use Rattle.page_numbers.proofs.Bridge.{min-spec, ints, eq-out, +law, neg-up, neg-dn}
 use Rattle.page_numbers.proofs.Machine.{machine, lt-true, lt-false, le-true, le-false, true-le, false-le}
 use Rattle.page_walks.specs.Grid.{Grid, row, weight, tighten, far, farN}
-use Rattle.page_walks.specs.Sizes.{Sized, filled, AllWithin}
-use Rattle.page_walks.specs.Near.{Weights, via, relax, Closure}
+use Rattle.page_walks.specs.Sizes.{tabled, Sized, filled, AllWithin}
+use Rattle.page_walks.specs.Near.{Weights, relax, Closure}
 use Rattle.page_walks.specs.Walk.{Sat}
 use Rattle.page_walks.proofs.Grids.{tighten-le}
 use Rattle.page_walks.proofs.Nears.{closure-same, relax-closure, tightened, sat-tighten, sat-reached, near-small}
-use Rattle.page_walks.proofs.Rows.{filled-at, filled-length}
-use Rattle.page_walks.proofs.Relaxed.{newRow}
+use Rattle.page_walks.proofs.Rows.{tabled-sized, tabled-at}
 use Rattle.page_formulas.specs.Program.{Values, Place, test}
 use Rattle.page_sheets.specs.Facts.{taken}
 use Rattle.grid.specs.Edges.{Fact}
 use Rattle.tableau.specs.Closed.{Tight, Closer, Enters, placeOf, Placed}
-
--- the closure with a new edge, row by row: those before u are done, the others as they were
-pub record Entering (n : ℕ) (near : Grid) (from to : ℕ) (k : ℤ) (u : ℕ) (h : Grid) : Type 0 where
-  pub sized : Sized 17 h
-  pub done : (r v : ℕ) → r < u → v < n → weight h r v ≡ relax (weight near) from to k r v
-  pub rest : (r : ℕ) → u ≤ r → row h r ≡ row near r
-
-pub entering-start : (n : ℕ) (near : Grid) (from to : ℕ) (k : ℤ) → Sized 17 near → Entering n near from to k 0 near
-entering-start n near from to k z = record { sized = z; done = λ r v l. absurd (omega arith); rest = λ r l. refl }
 
 least : (a b : ℤ) → a ≤ℤ b → minZ a b ≡ a
 least a b h = go (min-spec a b .2)
@@ -75,42 +63,10 @@ module _ (n : ℕ) (near : Grid) (t : Tight n near) where
           both = λ x s f u v hu hv. sat-reached n (weight g) x (sat-tighten n near x from to k s f) u v (weight r u v) hu hv (c .reached u v hu hv);
         }
 
-    -- a row that the fact doesn't lower at its end
-    pub entering-stays : (u : ℕ) (h : Grid) → u < n → Entering n near from to k u h → weight near u to ≤ℤ (weight near u from +ℤ k) → Entering n near from to k (u + 1) h
-    unfolding relax
-    entering-stays u h l w s = record {
-      sized = w .sized;
-      done = λ r v m hv. go r v m hv (ℕ-discrete r u);
-      rest = λ r m. w .rest r (omega arith);
-    }
-      where
-        stays : (v : ℕ) → v < n → relax (weight near) from to k u v ≡ weight near u v
-        stays v hv = least (weight near u v) (via (weight near) from to k u v) (omega (ints, s, t .triangle u to v l ht hv, +law (weight near u to) (weight near to v), +law (weight near u from) k, +law (weight near u from +ℤ k) (weight near to v)))
-
-        go : (r v : ℕ) → r < u + 1 → v < n → Dec (r ≡ u) → weight h r v ≡ relax (weight near) from to k r v
-        go r v m hv (yes e) = rw e (ap (λ l. getD l v far) (w .rest u (omega arith)) ∙ sym (stays v hv))
-        go r v m hv (no e) = w .done r v (omega arith) hv
-
-    pub entering-row : (u : ℕ) (h : Grid) (new : List ℤ) → u < n → Entering n near from to k u h → new ≡ newRow near n from to k u → Entering n near from to k (u + 1) (set h u new)
-    entering-row u h new l w e = record {
-      sized = record { rows = length-set h u new ∙ w .sized .rows; columns = λ r m. wide-row r m (ℕ-discrete r u) };
-      done = λ r v m hv. go r v m hv (ℕ-discrete r u);
-      rest = λ r m. getD-set-other h u r new [] (omega arith) ∙ w .rest r (omega arith);
-    }
-      where
-        here : row (set h u new) u ≡ newRow near n from to k u
-        here = getD-set-same h u new [] (omega (arith, w .sized .rows)) ∙ e
-
-        wide-row : (r : ℕ) → r < 17 → Dec (r ≡ u) → length (row (set h u new) r) ≡ 17
-        wide-row r m (yes d) = rw d (ap length here ∙ filled-length (relax (weight near) from to k u) n (row near u) ∙ table .columns u (omega arith))
-        wide-row r m (no d) = ap length (getD-set-other h u r new [] d) ∙ w .sized .columns r m
-
-        go : (r v : ℕ) → r < u + 1 → v < n → Dec (r ≡ u) → weight (set h u new) r v ≡ relax (weight near) from to k r v
-        go r v m hv (yes d) = rw d (ap (λ l. getD l v far) here ∙ filled-at (relax (weight near) from to k u) n (row near u) v far hv (omega (arith, table .columns u (omega arith))))
-        go r v m hv (no d) = ap (λ l. getD l v far) (getD-set-other h u r new [] d) ∙ w .done r v (omega arith) hv
-
-    pub entering-end : (u : ℕ) (h : Grid) → n ≤ u → Entering n near from to k u h → pos 0 ≤ℤ (weight near to from +ℤ k) → Closer n near from to k h
-    entering-end u h l w c = closer-relaxed h (w .sized) (λ r v hr hv. w .done r v (omega arith) hv) c
+    pub closer-tabled : (r : Grid) → r ≡ tabled (relax (weight near) from to k) n near → pos 0 ≤ℤ (weight near to from +ℤ k) → Closer n near from to k r
+    closer-tabled r e h =
+        let f = relax (weight near) from to k in
+        closer-relaxed r (rw e (tabled-sized f 17 n near few table)) (λ u v hu hv. rw e (tabled-at f 17 n near few table u v hu hv)) h
 
 -- ---- places
 

@@ -1,6 +1,6 @@
 // A place that is wanted true, or false: one fact more, put into the closure of those before it.
 use crate::types::VERTICES;
-use closure::relax_row;
+use closure::relax_in;
 use ints::weights::negation;
 ghost use Prim.Native.Nat.{suc, _<_};
 ghost use Rattle.page_meaning.specs.Limits.{mostVertices};
@@ -9,7 +9,7 @@ ghost use Rattle.page_sheets.specs.Facts.{taken};
 ghost use Rattle.grid.specs.Edges.{Fact};
 ghost use Rattle.tableau.specs.Closed.{Tight, Enters, Placed, placeOf};
 
-// Does an edge of weight k contradict the facts? If not, it is one of them now; a row that it doesn't lower at its end stays.
+// Does an edge of weight k contradict the facts? If not, it is one of them now.
 fn enter(
     near: &mut [[i64; VERTICES]; VERTICES],
     last: usize,
@@ -24,19 +24,7 @@ fn enter(
     if round + k < 0 {
         return true;
     }
-    let on = near[to];
-    let n = last + 1;
-    let mut u: usize = 0;
-    while u < n {
-        let reach = near[u][from] + k;
-        let there = near[u][to];
-        if there <= reach {
-            u += 1;
-            continue;
-        }
-        relax_row(&mut near[u], &on, n, reach);
-        u += 1;
-    }
+    relax_in(near, last + 1, from, to, k);
     false
 }
 
