@@ -28,7 +28,6 @@ use Rattle.program.specs.Lent.{Coded}
 use Rattle.program.specs.Compiled.{Ranging, rangesFrom}
 use Rattle.writer_trees.specs.Starting.{NearStarts}
 use Rattle.room.specs.declared.Spot.{Spot}
-use Rattle.writer_trees.specs.declared.growing.Grown.{Grown}
 use Rattle.writer_trees.proofs.Growths.{grows-same}
 use Rattle.facts.proofs.Places.{lengths, place-facts}
 use Rattle.program.proofs.Ranges.{ranges-are}
@@ -68,21 +67,21 @@ module _ (F : Formula) (kinds : List ℕ) (n : ℕ) (left right : List ℕ) (mos
     weaken (openAt x) (openAt y) s = λ v h. s v (omega (arith, p .vertices))
 
     -- from the root the code's rule is the writer's
-    pub planted : (truths : List ℕ) (g near : Grid) → g ≡ start mostVertices (F .ranges) → NearStarts (suc (length (F .ranges))) (F .ranges) near → (old : List ℕ) (s : Spot) (new : List ℕ) (r : Grown) → Grows (length (F .ranges)) old s (fastAt (length (F .ranges)) F 0 truths g near) new r → Grows (length (F .ranges)) old s (growTree lastVertex F) new r
+    pub planted : (truths : List ℕ) (g near : Grid) → g ≡ start mostVertices (F .ranges) → NearStarts (suc (length (F .ranges))) (F .ranges) near → (old : List ℕ) (s : Spot) (new : List ℕ) (r : Spot) → Grows old s (fastAt (length (F .ranges)) F 0 truths g near) new r → Grows old s (growTree lastVertex F) new r
     planted truths g near e n old s new r h =
         let m = length (F .ranges) in
         let by-table = fast m F (places (F .program)) [] (start mostVertices (F .ranges)) (weight near) in
         let by-sums = fast m F (places (F .program)) [] (start mostVertices (F .ranges)) (nearStart (F .ranges)) in
         grows-same m F (growTree lastVertex F) by-sums (weaken (growTree lastVertex F) by-sums (fast-formula lastVertex F (fit F p) (p .ranges-some))) old s new r
         (grows-same m F by-sums by-table (fast-table m F (places (F .program)) [] (start mostVertices (F .ranges)) (nearStart (F .ranges)) (weight near) (λ u v hu hv. sym (n .same u v hu hv)) (ends (places (F .program)) (p .places-small))) old s new r
-        (subst (λ x. Grows m old s (fast m F (places (F .program)) [] x (weight near)) new r) e h))
+        (subst (λ x. Grows old s (fast m F (places (F .program)) [] x (weight near)) new r) e h))
 
     -- as the code hands it on
     pub root-ready : (last : ℕ) → last ≡ length (F .ranges) → (g near : Grid) → g ≡ start mostVertices (F .ranges) → NearStarts (suc (length (F .ranges))) (F .ranges) near → Ready last ls rs ms g near
     root-ready last e g near d s = subst (λ m. Ready m ls rs ms g near) (sym e) (ready g near d s)
 
-    pub root-grows : (last decided : ℕ) → last ≡ length (F .ranges) → decided ≡ 0 → (truths : List ℕ) (g near : Grid) → g ≡ start mostVertices (F .ranges) → NearStarts (suc (length (F .ranges))) (F .ranges) near → (old : List ℕ) (s : Spot) (new : List ℕ) (r : Grown) → Grows last old s (fastAt last F decided truths g near) new r → Grows (length (F .ranges)) old s (growTree lastVertex F) new r
-    root-grows last decided e f truths g near d s old spot new r h = planted truths g near d s old spot new r (subst (λ m. Grows m old spot (fastAt m F 0 truths g near) new r) e (subst (λ k. Grows last old spot (fastAt last F k truths g near) new r) f h))
+    pub root-grows : (last decided : ℕ) → last ≡ length (F .ranges) → decided ≡ 0 → (truths : List ℕ) (g near : Grid) → g ≡ start mostVertices (F .ranges) → NearStarts (suc (length (F .ranges))) (F .ranges) near → (old : List ℕ) (s : Spot) (new : List ℕ) (r : Spot) → Grows old s (fastAt last F decided truths g near) new r → Grows old s (growTree lastVertex F) new r
+    root-grows last decided e f truths g near d s old spot new r h = planted truths g near d s old spot new r (subst (λ m. Grows old spot (fastAt m F 0 truths g near) new r) e (subst (λ k. Grows old spot (fastAt last F k truths g near) new r) f h))
 
 -- the closure that the code made is that of the ranges
 pub near-of : (rs : Ranges) (count : ℕ) (flags : List Bool) (lo hi : List ℤ) (near : Grid) → Ranging rs count flags lo hi → NearStarts count (rangesFrom flags lo hi 1 (count - 1)) near → NearStarts (suc (length rs)) rs near
