@@ -2,7 +2,7 @@
 -- So the first open leaf is reached by going down once, with an answer to "is the formula open there?" at each node.
 use Prim.Native.Nat.{ℕ, suc, _≤_, _<_}
 use mathlib.Core.Path.{_≡_, refl, sym, ap, _∙_, subst}
-use mathlib.Core.Logic.{_⊎_, inl, inr, _≢_}
+use mathlib.Core.Logic.{_⊎_, inl, inr}
 use mathlib.Core.Bool.{Bool, true, false, not, cond, true≢false}
 use mathlib.Core.Option.{Option}
 use mathlib.Core.List.{List, [], _∷_, _++_, append-assoc}
@@ -26,8 +26,8 @@ use Rattle.page_questions.specs.Accepted.{Every}
 use Rattle.page_sheets.specs.Facts.{taken, decide}
 use Rattle.page_sheets.specs.Fast.{after, strained, calmNode, strainedNode, half, fast, sideOf}
 use Rattle.page_sheets.specs.Grow.{join, Growth, shut, openAt}
-use Rattle.page_sheets.specs.Tree.{Tree}
-use Rattle.page_sheets.proofs.FastAmong.{Ends}
+use Rattle.page_sheets.specs.Tree.{Tree, falseLeaf}
+use Rattle.page_sheets.proofs.FastAmong.{Ends, SameBelow}
 use Rattle.page_sheets.proofs.Grows.{never-open}
 use Rattle.page_sheets.proofs.Sound.{agrees-snoc, snoc-lengths}
 
@@ -91,6 +91,31 @@ module _ (n : ℕ) (F : Formula) where
       least = relax-least (suc n) near (w .least) (q .right) (q .left) (q .most) (ends-of d .0) (ends-of d .1) h;
       agreeing = λ x s. rw (w .split-is) (agrees-snoc x done p todo ds d (w .as-many) (rw (w .split-is) at (w .agreeing x (old-facts x s))) (new-fact x s));
       ends = w .ends .1;
+    }
+
+  -- the same of a closure in a table
+  module _ (near table : Weights) (e : SameBelow n F near table) where
+    pub sat-table : (x : Values) → Sat near (suc n) x → Sat table (suc n) x
+    unfolding Sat
+    sat-table x s u v hu hv = rw (← e u v hu hv) (s u v hu hv)
+
+    pub table-sat : (x : Values) → Sat table (suc n) x → Sat near (suc n) x
+    unfolding Sat
+    table-sat x s u v hu hv = rw (e u v hu hv) (s u v hu hv)
+
+    pub true-table : (x : Values) → TrueIn table x → TrueIn near x
+    true-table x s = record { at-zero = s .at-zero; sat = table-sat x (s .sat); true-is = s .true-is }
+
+    pub table-true : (x : Values) → TrueIn near x → TrueIn table x
+    table-true x s = record { at-zero = s .at-zero; sat = sat-table x (s .sat); true-is = s .true-is }
+
+    pub down-table : (done todo : List Place) (ds : List Bool) → Down done todo ds near → Down done todo ds table
+    down-table done todo ds w = record {
+      split-is = w .split-is;
+      as-many = w .as-many;
+      least = record { itself = λ u hu. sym (e u u hu hu) ∙ w .least .itself u hu; triangle = λ u v x hu hv hx. rw (← e u x hu hx, ← e u v hu hv, ← e v x hv hx) (w .least .triangle u v x hu hv hx) };
+      agreeing = λ x s. w .agreeing x (table-sat x s);
+      ends = w .ends;
     }
 
   -- ---- what a growth says of the values that meet the facts
@@ -179,9 +204,11 @@ module _ (n : ℕ) (F : Formula) where
   leaf-known [] ds g near e = rw e
   leaf-known (p ∷ todo) ds g near e = rw e
 
-  -- it isn't known: there is a place left
-  pub leaf-unknown : (done : List Place) (ds : List Bool) (near : Weights) → Down done [] ds near → known (F .program) ds ≢ open?
-  leaf-unknown done ds near w = never-open (known (F .program) ds) (known-sure (F .program) ds (omega (arith, ap length (w .split-is), length-append done [], w .as-many)))
+  -- to be false: no leaf here is open
+  pub leaf-false : (todo : List Place) (ds : List Bool) (g : Grid) (near : Weights) → known (F .program) ds ≡ fails → fast n F todo ds g near ≡ shut falseLeaf
+  unfolding fast
+  leaf-false [] ds g near e = rw e
+  leaf-false (p ∷ todo) ds g near e = rw e
 
   module _ (done : List Place) (p : Place) (todo : List Place) (ds : List Bool) (g : Grid) (near : Weights) (w : Down done (p ∷ todo) ds near) (unsure : known (F .program) ds ≡ open?) where
     -- does taking p so close a negative cycle?

@@ -24,7 +24,7 @@ use Rattle.program.specs.Lent.{Lent, placeAt}
 use Rattle.page_sheets.specs.Facts.{negation, taken}
 use Rattle.page_sheets.specs.Fast.{calmNode, strainedNode, fast, sideOf, after}
 use Rattle.page_sheets.specs.Grow.{Growth, shut, openAt, join}
-use Rattle.page_sheets.specs.Tree.{bytesOf, falseLeaf}
+use Rattle.page_sheets.specs.Tree.{bytesOf}
 use Rattle.room.specs.Room.{filling, putOne, puts}
 use Rattle.writer_trees.specs.Growing.{decisions, Grows, Ready, cutBytes, fastAt, sideBy}
 use Rattle.room.specs.declared.Spot.{Spot}
@@ -33,6 +33,7 @@ use Rattle.page_sheets.proofs.FastAmong.{SameBelow, Ends, fast-table}
 use Rattle.program.proofs.Lends.{lent-most, lent-place}
 use Rattle.truth.proofs.Cells.{decided-more}
 use Rattle.page_sheets.proofs.Steps.{fast-split, fast-end}
+use Rattle.page_sheets.proofs.Descends.{leaf-known, leaf-false}
 use Rattle.writer_trees.proofs.Growths.{grows-same, grows-join}
 
 all-of : (P : Place → Type 0) (ps : List Place) (d : Place) → ((i : ℕ) → i < length ps → P (getD ps i d)) → Every P ps
@@ -45,22 +46,16 @@ all-drop P (suc n) [] a = tt
 all-drop P (suc n) (p ∷ ps) a = all-drop P n ps (a .1)
 
 module _ (last : ℕ) (F : Formula) (kinds left right : List ℕ) (most : List ℤ) (lent : Lent (F .program) kinds left right most) where
-  known-lent : (ds : List Bool) (k : Three) → knownKinds kinds ds ≡ k → known (F .program) ds ≡ k
+  -- the places are between vertices up to the last
+  pub all-ends : (g near : Grid) → Ready last left right most g near → Every (Ends last F) (places (F .program))
+  all-ends g near ready = all-of (Ends last F) (places (F .program)) nowhere (λ i l. let m : i < length most = omega (arith, lent-most (F .program) kinds left right most lent) in rw (← lent-place (F .program) kinds left right most lent i) (ready .facts i m true .to-is, ready .facts i m true .from-is))
+
+  pub known-lent : (ds : List Bool) (k : Three) → knownKinds kinds ds ≡ k → known (F .program) ds ≡ k
   known-lent ds k e = known-kinds (F .program) ds ∙ ap (λ x. knownKinds x ds) (sym (lent .kinds)) ∙ e
 
   module _ (truths : List ℕ) (g near : Grid) (decided : ℕ) where
     abbrev ds : List Bool
     ds = decisions truths decided
-
-    fast-fails : (todo : List Place) → known (F .program) ds ≡ fails → fast last F todo ds g (weight near) ≡ shut falseLeaf
-    unfolding fast
-    fast-fails [] e = rw e
-    fast-fails (p ∷ todo) e = rw e
-
-    fast-passes : (todo : List Place) → known (F .program) ds ≡ passes → fast last F todo ds g (weight near) ≡ openAt (weight near 0)
-    unfolding fast
-    fast-passes [] e = rw e
-    fast-passes (p ∷ todo) e = rw e
 
     fast-ends : length most ≤ decided → known (F .program) ds ≡ open? → fastAt last F decided truths g near ≡ openAt (weight near 0)
     fast-ends h e = fast-end last F ds g (places (F .program)) decided nowhere (weight near) (omega (arith, lent-most (F .program) kinds left right most lent)) ∙ rw e
@@ -81,10 +76,10 @@ module _ (last : ℕ) (F : Formula) (kinds left right : List ℕ) (most : List �
     module _ (old new : List ℕ) (s r : Spot) where
       pub grows-false : knownKinds kinds ds ≡ fails → filling new r ≡ putOne (filling old s) 1 → Grows old s (fastAt last F decided truths g near) new r
       unfolding bytesOf puts
-      grows-false e f = rw (fast-fails (drop decided (places (F .program))) (known-lent ds fails e)) f
+      grows-false e f = rw (leaf-false last F (drop decided (places (F .program))) ds g (weight near) (known-lent ds fails e)) f
 
       pub grows-true : knownKinds kinds ds ≡ passes → Grows old s (fastAt last F decided truths g near) new r
-      grows-true e = rw (fast-passes (drop decided (places (F .program))) (known-lent ds passes e)) tt
+      grows-true e = rw (leaf-known last F (drop decided (places (F .program))) ds g (weight near) (known-lent ds passes e)) tt
 
       pub grows-end : knownKinds kinds ds ≡ open? → length most ≤ decided → Grows old s (fastAt last F decided truths g near) new r
       grows-end e h = rw (fast-ends h (known-lent ds open? e)) tt
@@ -133,18 +128,14 @@ module _ (last : ℕ) (F : Formula) (kinds left right : List ℕ) (most : List �
   abbrev closer : Grid
   closer = tabled (relax (weight near) from to k) (suc last) near
 
+  -- the table has its entries
+  pub closer-same : Ready last left right most g near → SameBelow last F (after (weight near) q) (weight closer)
+  closer-same ready u v hu hv = sym (tabled-at (relax (weight near) from to k) mostVertices (suc last) near (omega (arith, ready .few)) (ready .table) u v hu hv)
+
   -- it does not
   pub side-calm : (x : ℤ) (facts₁ closer₁ : Grid) → x ≡ weight near to from +ℤ k → facts₁ ≡ facts → closer₁ ≡ closer → (old new : List ℕ) (s r : Spot) → ltZ x (pos 0) ≡ false → Ready last left right most g near → Grows old s (fastAt last F decided truths facts₁ closer₁) new r → Grows old s (sideBy last F decided truths g near from to k) new r
   side-calm x facts₁ closer₁ e i j old new s r t ready h =
+      let todo = drop decided (places (F .program)) in
       let h₂ = subst (λ y. Grows old s (fastAt last F decided truths facts y) new r) j (subst (λ y. Grows old s (fastAt last F decided truths y closer₁) new r) i h) in
       rw (subst (λ y. ltZ y (pos 0) ≡ false) e t) (grows-same last F (fast last F todo so-far facts (after (weight near) q)) (fast last F todo so-far facts (weight closer))
-      (fast-table last F todo so-far facts (after (weight near) q) (weight closer) same (all-drop (Ends last F) decided (places (F .program)) all-ends)) old s new r h₂)
-    where
-      todo : List Place
-      todo = drop decided (places (F .program))
-
-      same : SameBelow last F (after (weight near) q) (weight closer)
-      same u v hu hv = sym (tabled-at (relax (weight near) from to k) mostVertices (suc last) near (omega (arith, ready .few)) (ready .table) u v hu hv)
-
-      all-ends : Every (Ends last F) (places (F .program))
-      all-ends = all-of (Ends last F) (places (F .program)) nowhere (λ i l. let m : i < length most = omega (arith, lent-most (F .program) kinds left right most lent) in rw (← lent-place (F .program) kinds left right most lent i) (ready .facts i m true .to-is, ready .facts i m true .from-is))
+      (fast-table last F todo so-far facts (after (weight near) q) (weight closer) (closer-same ready) (all-drop (Ends last F) decided (places (F .program)) (all-ends last F kinds left right most lent g near ready))) old s new r h₂)
