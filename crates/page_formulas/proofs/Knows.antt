@@ -28,7 +28,7 @@ SaysAll [] (b ∷ bs) = ⊥
 SaysAll (t ∷ ts) [] = ⊥
 SaysAll (t ∷ ts) (b ∷ bs) = Says t b × SaysAll ts bs
 
-says-and : (s t : Three) (a b : Bool) → Says s a → Says t b → Says (and3 s t) (a && b)
+pub says-and : (s t : Three) (a b : Bool) → Says s a → Says t b → Says (and3 s t) (a && b)
 says-and fails t a b h k = ap (λ x. x && b) h
 says-and passes t a b h k = rw h k
 says-and open? fails true b h k = k
@@ -36,7 +36,7 @@ says-and open? fails false b h k = refl
 says-and open? passes a b h k = tt
 says-and open? open? a b h k = tt
 
-says-or : (s t : Three) (a b : Bool) → Says s a → Says t b → Says (or3 s t) (a || b)
+pub says-or : (s t : Three) (a b : Bool) → Says s a → Says t b → Says (or3 s t) (a || b)
 says-or passes t a b h k = ap (λ x. x || b) h
 says-or fails t a b h k = rw h k
 says-or open? passes true b h k = refl
@@ -44,7 +44,7 @@ says-or open? passes false b h k = k
 says-or open? fails a b h k = tt
 says-or open? open? a b h k = tt
 
-says-not : (s : Three) (a : Bool) → Says s a → Says (not3 s) (not a)
+pub says-not : (s : Three) (a : Bool) → Says s a → Says (not3 s) (not a)
 says-not fails a h = ap not h
 says-not passes a h = ap not h
 says-not open? a h = tt

@@ -9,5 +9,8 @@ pub mod Stands
 pub mod Inserts
 pub mod Sizes
 pub mod Present
+pub mod Forms
 pub mod Proper
 pub mod Examples
+pub mod Cases
+pub mod Trees

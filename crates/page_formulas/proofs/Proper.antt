@@ -28,6 +28,7 @@ use Rattle.page_formulas.specs.Formulas.{Formula, firstSight, secondSigh
 use Rattle.page_formulas.proofs.Usable.{Exists, ChangeUsable, Usable, usable, reads-become}
 use Rattle.page_formulas.specs.Proper.{large, mostInstructions, Nonempty, SmallRange, Proper}
 use Rattle.page_formulas.proofs.Sizes.{Sized, size-append, size-most, size-join, size-and, size-or, size-not, SmallSight, range-size, size-condition, size-boundedAll, size-differsOver}
+use Rattle.page_formulas.proofs.Forms.{Pushes, pushes-and, pushes-or, pushes-not, pushes-more, condition-pushes, keeps-bounded, pushes-differs}
 use Rattle.page_formulas.proofs.Present.{first-every, both-every, hidden-length, first-in-one, first-in-both, second-in-both, after-small}
 
 -- ---- the parts of the lists, in a formula with ranges rs
@@ -100,31 +101,33 @@ module _ (q : Question) (a : Accepted q) where
   some-range : (g : Range) → RangeOk g → Nonempty (some g)
   some-range g r = r .ordered
 
-  proper-one : (p : Program) → Sized (firstRanges (columns q)) p mostDecisions mostInstructions → Proper (oneRow q p)
-  proper-one p x = record {
+  proper-one : (p : Program) → Sized (firstRanges (columns q)) p mostDecisions mostInstructions → Pushes p → Proper (oneRow q p)
+  proper-one p x f = record {
     vertices = omega (arith, length-map (columns q) some, a .fewColumns);
     ranges-small = first-every SmallRange tt range-size (columns q) (a .ranges);
     ranges-some = first-every Nonempty tt some-range (columns q) (a .ranges);
     places-small = x .small;
     few-places = x .few;
     short = x .short;
+    formed = f .on 0;
   }
 
-  proper-two : (p : Program) → Sized (bothRanges q) p mostDecisions mostInstructions → Proper (twoRows q p)
-  proper-two p x = record {
+  proper-two : (p : Program) → Sized (bothRanges q) p mostDecisions mostInstructions → Pushes p → Proper (twoRows q p)
+  proper-two p x f = record {
     vertices = omega (arith, length-append (firstRanges (columns q)) (hiddenRanges (q .visible) 0 (columns q)), length-map (columns q) some, hidden-length (q .visible) 0 (columns q), a .fewColumns);
     ranges-small = both-every SmallRange tt range-size (q .visible) (columns q) (columns q) (a .ranges) (a .ranges);
     ranges-some = both-every Nonempty tt some-range (q .visible) (columns q) (columns q) (a .ranges) (a .ranges);
     places-small = x .small;
     few-places = x .few;
     short = x .short;
+    formed = f .on 0;
   }
 
-  one-of : {p : Program} {n m : ℕ} → Sized (firstRanges (columns q)) p n m → n ≤ mostDecisions → m ≤ mostInstructions → Proper (oneRow q p)
-  one-of {p} x h i = proper-one p (size-most (firstRanges (columns q)) mostDecisions mostInstructions x h i)
+  one-of : {p : Program} {n m : ℕ} → Sized (firstRanges (columns q)) p n m → n ≤ mostDecisions → m ≤ mostInstructions → Pushes p → Proper (oneRow q p)
+  one-of {p} x h i f = proper-one p (size-most (firstRanges (columns q)) mostDecisions mostInstructions x h i) f
 
-  two-of : {p : Program} {n m : ℕ} → Sized (bothRanges q) p n m → n ≤ mostDecisions → m ≤ mostInstructions → Proper (twoRows q p)
-  two-of {p} x h i = proper-two p (size-most (bothRanges q) mostDecisions mostInstructions x h i)
+  two-of : {p : Program} {n m : ℕ} → Sized (bothRanges q) p n m → n ≤ mostDecisions → m ≤ mostInstructions → Pushes p → Proper (twoRows q p)
+  two-of {p} x h i f = proper-two p (size-most (bothRanges q) mostDecisions mostInstructions x h i) f
 
   -- an inserted row's values are constants of the question
   value-ok : (g : Range) (v : ℤ) → RangeOk g → T (inRange g v) → ConstantOk v
@@ -142,7 +145,7 @@ module _ (q : Question) (a : Accepted q) where
   inserted-proper : (new : List M.Values) → TableFits (q .changed) new → Every Proper (inserted q new)
   inserted-proper [] f = tt
   inserted-proper (n ∷ new) f = (
-    one-of (C-size (firstRanges (columns q)) (after q (map become n) firstSight) (after-small q (firstRanges (columns q)) firstSight (first-in-one q) (map become n) (values-ok (q .changed) n changed-ranges (f n (inl refl))) (reads-become (Exists q) n))) (omega arith) (omega arith),
+    one-of (C-size (firstRanges (columns q)) (after q (map become n) firstSight) (after-small q (firstRanges (columns q)) firstSight (first-in-one q) (map become n) (values-ok (q .changed) n changed-ranges (f n (inl refl))) (reads-become (Exists q) n))) (omega arith) (omega arith) (condition-pushes (after q (map become n) firstSight) (q .condition) (a .condition)),
     inserted-proper new (λ r i. f r (inr i)),
   )
 
@@ -151,14 +154,21 @@ module _ (q : Question) (a : Accepted q) where
   unless-proper [] (u ∷ us) Fs p = p
   unless-proper (t ∷ ts) us Fs p = p
 
+  -- ---- each part pushes its truth
+  C-pushes : (σ : Sight) → Pushes (C q σ)
+  C-pushes σ = condition-pushes σ (q .condition) (a .condition)
+
   module _ (d : Condition) (u : Uses (Exists q) d) (o : ConditionOk d) where
+    D-pushes : (σ : Sight) → Pushes (conditionProgram σ d)
+    D-pushes σ = condition-pushes σ d o
+
     delete-one : Every Proper (irrelevance q (delete d))
     delete-one = let rs = firstRanges (columns q) in let s = first-in-one q in
-        (one-of (size-and rs (now-size rs firstSight s) (D-size rs firstSight s d u o)) (omega arith) (omega arith), tt)
+        (one-of (size-and rs (now-size rs firstSight s) (D-size rs firstSight s d u o)) (omega arith) (omega arith) (pushes-and (C-pushes firstSight) (D-pushes firstSight)), tt)
 
     delete-two : Every Proper (computability q (delete d))
     delete-two = let rs = bothRanges q in let s = first-in-both q in let t = second-in-both q in
-        (two-of (size-and rs (size-and rs (size-and rs (now-size rs firstSight s) (now-size rs (secondSight q) t)) (D-size rs firstSight s d u o)) (size-not rs (D-size rs (secondSight q) t d u o))) (omega arith) (omega arith), tt)
+        (two-of (size-and rs (size-and rs (size-and rs (now-size rs firstSight s) (now-size rs (secondSight q) t)) (D-size rs firstSight s d u o)) (size-not rs (D-size rs (secondSight q) t d u o))) (omega arith) (omega arith) (pushes-and (pushes-and (pushes-and (C-pushes firstSight) (C-pushes (secondSight q))) (D-pushes firstSight)) (pushes-not (D-pushes (secondSight q)))), tt)
 
     module _ (ms : List Mode) (r : Reads (Exists q) ms) (m : Every ModeOk ms) where
       -- the parts, by ranges and sight
@@ -171,28 +181,41 @@ module _ (q : Question) (a : Accepted q) where
       F-wide : (rs : Ranges) (σ : Sight) → SmallSight rs (Exists q) 0 σ → SmallSight rs (Exists q) large (after q ms σ)
       F-wide rs σ x = new-wide rs σ x d u o ms r m
 
+      M-pushes : (σ : Sight) → Pushes (moves q d ms σ)
+      M-pushes σ = pushes-more (D-pushes σ) (keeps-bounded σ (q .changed) ms)
+
+      F-pushes : (σ : Sight) → Pushes (C q (after q ms σ))
+      F-pushes σ = C-pushes (after q ms σ)
+
+      S-pushes : (σ : Sight) → Pushes (S q d ms σ)
+      S-pushes σ = pushes-or (pushes-not (M-pushes σ)) (F-pushes σ)
+
+      differs-pushes : (σ τ : Sight) → Pushes (differs q ms σ τ)
+      differs-pushes σ τ = pushes-differs (modeAt q ms) σ τ (q .visible)
+
       entering-proper : Proper (entering q d ms)
       entering-proper = let rs = firstRanges (columns q) in let s = first-in-one q in
-          one-of (size-and rs (size-and rs (M-of rs firstSight s) (size-not rs (now-size rs firstSight s))) (F-of rs firstSight s)) (omega arith) (omega arith)
+          one-of (size-and rs (size-and rs (M-of rs firstSight s) (size-not rs (now-size rs firstSight s))) (F-of rs firstSight s)) (omega arith) (omega arith) (pushes-and (pushes-and (M-pushes firstSight) (pushes-not (C-pushes firstSight))) (F-pushes firstSight))
 
       modify-one : Every Proper (irrelevance q (modify d ms))
       modify-one = let rs = firstRanges (columns q) in let s = first-in-one q in (
-        one-of (size-and rs (size-and rs (M-of rs firstSight s) (now-size rs firstSight s)) (size-not rs (F-of rs firstSight s))) (omega arith) (omega arith),
+        one-of (size-and rs (size-and rs (M-of rs firstSight s) (now-size rs firstSight s)) (size-not rs (F-of rs firstSight s))) (omega arith) (omega arith) (pushes-and (pushes-and (M-pushes firstSight) (C-pushes firstSight)) (pushes-not (F-pushes firstSight))),
         (
           entering-proper,
-          (one-of (size-and rs (size-and rs (size-and rs (M-of rs firstSight s) (now-size rs firstSight s)) (F-of rs firstSight s)) (differs-size rs ms (after q ms firstSight) firstSight (F-wide rs firstSight s) (wide rs firstSight s))) (omega arith) (omega arith), tt),
+          (one-of (size-and rs (size-and rs (size-and rs (M-of rs firstSight s) (now-size rs firstSight s)) (F-of rs firstSight s)) (differs-size rs ms (after q ms firstSight) firstSight (F-wide rs firstSight s) (wide rs firstSight s))) (omega arith) (omega arith) (pushes-and (pushes-and (pushes-and (M-pushes firstSight) (C-pushes firstSight)) (F-pushes firstSight)) (differs-pushes (after q ms firstSight) firstSight)), tt),
         ),
       )
 
       modify-two : Every Proper (computability q (modify d ms))
       modify-two = let rs = bothRanges q in let σ = firstSight in let τ = secondSight q in let s = first-in-both q in let t = second-in-both q in
-          let both = size-and rs (now-size rs σ s) (now-size rs τ t) in (
+          let both = size-and rs (now-size rs σ s) (now-size rs τ t) in
+          let two = pushes-and (C-pushes σ) (C-pushes τ) in (
             entering-proper,
             (
-              two-of (size-and rs (size-and rs both (S-size rs σ s d u o ms r m)) (size-not rs (S-size rs τ t d u o ms r m))) (omega arith) (omega arith),
+              two-of (size-and rs (size-and rs both (S-size rs σ s d u o ms r m)) (size-not rs (S-size rs τ t d u o ms r m))) (omega arith) (omega arith) (pushes-and (pushes-and two (S-pushes σ)) (pushes-not (S-pushes τ))),
               (
-                two-of (size-and rs (size-and rs (size-and rs (size-and rs (size-and rs both (M-of rs σ s)) (M-of rs τ t)) (F-of rs σ s)) (F-of rs τ t)) (differs-size rs ms (after q ms σ) (after q ms τ) (F-wide rs σ s) (F-wide rs τ t))) (omega arith) (omega arith),
-                (two-of (size-and rs (size-and rs (size-and rs (size-and rs both (M-of rs σ s)) (size-not rs (M-of rs τ t))) (F-of rs σ s)) (differs-size rs ms (after q ms σ) τ (F-wide rs σ s) (wide rs τ t))) (omega arith) (omega arith), tt),
+                two-of (size-and rs (size-and rs (size-and rs (size-and rs (size-and rs both (M-of rs σ s)) (M-of rs τ t)) (F-of rs σ s)) (F-of rs τ t)) (differs-size rs ms (after q ms σ) (after q ms τ) (F-wide rs σ s) (F-wide rs τ t))) (omega arith) (omega arith) (pushes-and (pushes-and (pushes-and (pushes-and (pushes-and two (M-pushes σ)) (M-pushes τ)) (F-pushes σ)) (F-pushes τ)) (differs-pushes (after q ms σ) (after q ms τ))),
+                (two-of (size-and rs (size-and rs (size-and rs (size-and rs both (M-of rs σ s)) (size-not rs (M-of rs τ t))) (F-of rs σ s)) (differs-size rs ms (after q ms σ) τ (F-wide rs σ s) (wide rs τ t))) (omega arith) (omega arith) (pushes-and (pushes-and (pushes-and (pushes-and two (M-pushes σ)) (pushes-not (M-pushes τ))) (F-pushes σ)) (differs-pushes (after q ms σ) τ)), tt),
               ),
             ),
           )

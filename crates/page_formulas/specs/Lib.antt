@@ -1,8 +1,10 @@
 pub mod Program
 pub mod Compile
 pub mod Parts
-pub mod Known
 pub mod Vertices
 pub mod Formulas
+pub mod Known
 pub mod Kinds
+pub mod Form
+pub mod Postfix
 pub mod Proper

@@ -12,6 +12,7 @@ use Rattle.page_questions.specs.Accepted.{Every}
 use Rattle.page_formulas.specs.Program.{Place, places}
 use Rattle.page_formulas.specs.Vertices.{Ranges, present}
 use Rattle.page_formulas.specs.Formulas.{Formula}
+use Rattle.page_formulas.specs.Form.{Formed}
 
 -- what a range's ends and a constant of the question reach
 abbrev pub billion : ℕ
@@ -50,3 +51,4 @@ pub record Proper (F : Formula) : Type 0 where
   pub places-small : Every (SmallPlace (F .ranges)) (places (F .program))
   pub few-places : length (places (F .program)) ≤ mostDecisions
   pub short : length (F .program) ≤ mostInstructions
+  pub formed : Formed (F .program)

@@ -6,6 +6,7 @@ use mathlib.Core.List.{List, [], _∷_}
 use native.Mathlib.Omega.{arith}
 use native.Mathlib.Decide.{ℕ-discrete}
 use lib.ListN.{length}
+use lib.IntN.{ℤ}
 use Rattle.page_questions.specs.Accepted.{Every, Accepted}
 use Rattle.page_meaning.specs.Contents.{Question}
 use Rattle.page_formulas.specs.Formulas.{noFormula, Formula, formulas}
@@ -16,14 +17,14 @@ use Rattle.page_sheets.specs.Sheet.{lastVertex, sayYes, sayNo, verdictFor, find
 use Rattle.page_sheets.specs.Trees.{Finding, allShut, firstOpen, writeTrees}
 use Rattle.page_sheets.proofs.Findings.{Fails, yes-found, yes-sound, no-found, opens-at, not-all}
 use Rattle.page_sheets.proofs.Fit.{fit-all}
-use Rattle.tableau.specs.Goals.{Decides, TrueAt}
+use Rattle.tableau.specs.Goals.{held, Opens, TrueAt}
 
 -- no values: it fails on all of them
-pub never : (F : Formula) (answer : Bool) → answer ≡ false → Decides answer (TrueAt F) → Fails F
-never F answer e d ρ h = go (truth ρ (F .program)) refl
+pub never : (F : Formula) (answer : Bool) (l : List ℤ) → answer ≡ false → Opens answer l (TrueAt F) → Fails F
+never F answer l e d ρ h = go (truth ρ (F .program)) refl
   where
     go : (b : Bool) → truth ρ (F .program) ≡ b → b ≡ false
-    go true t = absurd (subst (λ a. Decides a (TrueAt F)) e d ρ (h, t))
+    go true t = absurd (subst (λ a. Opens a l (TrueAt F)) e d ρ (h, t))
     go false t = refl
 
 -- the formulas before position i fail
@@ -55,12 +56,12 @@ module _ (q : Question) (ok : Accepted q) (asked : ℕ) where
           let o = opens-at Fs i G x (no-found lastVertex Fs (fit-all Fs (formulas-proper q ok asked)) i G x e) noFormula in
           absurd (not-all Fs i noFormula x (o .0) (rw (o .1) (o .2)) (rw (o .1) (o .3)) (every-of Fails Fs f))
 
-  pub says-no : (i : ℕ) → i < length Fs → (answer : Bool) → answer ≡ true → Decides answer (TrueAt (formulaAt Fs i)) → sayNo ≡ verdictFor (findingOf q asked)
+  pub says-no : (i : ℕ) → i < length Fs → (answer : Bool) (l : List ℤ) → answer ≡ true → Opens answer l (TrueAt (formulaAt Fs i)) → sayNo ≡ verdictFor (findingOf q asked)
   unfolding findingOf
-  says-no i h answer is d = go (writeTrees lastVertex Fs) refl (subst (λ a. Decides a (TrueAt (formulaAt Fs i))) is d)
+  says-no i h answer l is d = go (writeTrees lastVertex Fs) refl (subst (λ a. Opens a l (TrueAt (formulaAt Fs i))) is d)
     where
-      go : (v : Finding) → writeTrees lastVertex Fs ≡ v → Decides true (TrueAt (formulaAt Fs i)) → sayNo ≡ verdictFor v
+      go : (v : Finding) → writeTrees lastVertex Fs ≡ v → Opens true l (TrueAt (formulaAt Fs i)) → sayNo ≡ verdictFor v
       go (firstOpen j G x) e t = refl
       go (allShut ts) e t =
           let fit = fit-all Fs (formulas-proper q ok asked) in
-          absurd (not-all Fs i noFormula (t .0) h (t .1 .0) (t .1 .1) (yes-sound (suc lastVertex) Fs fit 0 _ _ [] (yes-found lastVertex Fs fit ts e 0)))
+          absurd (not-all Fs i noFormula (held l) h (t .0) (t .1) (yes-sound (suc lastVertex) Fs fit 0 _ _ [] (yes-found lastVertex Fs fit ts e 0)))

@@ -1,10 +1,11 @@
 pub mod Tightens
-pub mod Turns
-pub mod Goes
-pub mod Prefixes
-pub mod Tables
-pub mod Links
 pub mod Settles
 pub mod Spreads
+pub mod Stacks
+pub mod Turns
+pub mod Looks
+pub mod Sifts
+pub mod Tables
+pub mod Splits
 pub mod Roots
 pub mod Judges

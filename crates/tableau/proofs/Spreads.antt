@@ -134,8 +134,7 @@ module _ (count : ℕ) (flags : List Bool) (lo hi : List ℤ) (r : Ranged count 
           next : (k : ℕ) → suc s + k ≡ s + suc k
           next k = omega arith
       within-of x s (some t ∷ ts) f =
-          let i : s + 0 ≡ s = omega arith in
-          let h = f 0 t refl in
+          let i : s + 0 ≡ s = omega arith in let h = f 0 t refl in
           (rw i at (h .0), rw i at (h .1), within-of x (suc s) ts (λ k t e. rw (next k) (f (suc k) t e)))
         where
           next : (k : ℕ) → suc s + k ≡ s + suc k

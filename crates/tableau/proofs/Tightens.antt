@@ -1,6 +1,6 @@
 -- Laws of the closure by itself: its entries are small, and one fact more keeps it.
 use Prim.Native.Nat.{ℕ, suc, _+_, _≤_, _<_}
-use mathlib.Core.Path.{_≡_, refl, sym, ap, _∙_}
+use mathlib.Core.Path.{_≡_, refl, sym, ap, _∙_, subst}
 use mathlib.Core.Logic.{_⊎_, inl, inr}
 use mathlib.Core.Bool.{Bool, true, false}
 use mathlib.Core.List.{List, []}
@@ -11,7 +11,8 @@ use lib.Seq.{getD-set-same, getD-set-other}
 use lib.IntN.{ℤ, pos, negsuc, _+ℤ_, negℤ}
 use lib.Signed.{_≤ℤ_, _<ℤ_, leZ, ltZ}
 use mir.Syntax.{w64}
-use mir.Val.{SFits}
+use mir.Val.{SFits, toZ, ofZ}
+use mir.Facts.{toZ-ofZ}
 use Rattle.page_numbers.specs.Numbers.{minZ}
 use Rattle.page_numbers.proofs.Bridge.{min-spec, ints, eq-out, +law, neg-up, neg-dn}
 use Rattle.page_numbers.proofs.Machine.{machine, lt-true, lt-false, le-true, le-false, true-le, false-le}
@@ -26,7 +27,7 @@ use Rattle.page_walks.proofs.Relaxed.{newRow}
 use Rattle.page_formulas.specs.Program.{Values, Place, test}
 use Rattle.page_sheets.specs.Facts.{taken}
 use Rattle.grid.specs.Edges.{Fact}
-use Rattle.tableau.specs.Closed.{Tight, Closer, Enters}
+use Rattle.tableau.specs.Closed.{Tight, Closer, Enters, placeOf, Placed}
 
 -- the closure with a new edge, row by row: those before u are done, the others as they were
 pub record Entering (n : ℕ) (near : Grid) (from to : ℕ) (k : ℤ) (u : ℕ) (h : Grid) : Type 0 where
@@ -63,8 +64,7 @@ module _ (n : ℕ) (near : Grid) (t : Tight n near) where
     closer-relaxed : (r : Grid) → Sized 17 r → ((u v : ℕ) → u < n → v < n → weight r u v ≡ relax (weight near) from to k u v) → pos 0 ≤ℤ (weight near to from +ℤ k) → Closer n near from to k r
     unfolding Sat
     closer-relaxed r sized e h =
-        let g = tighten near from to k in
-        let m = tightened 17 near from to k table (omega arith) (omega arith) in
+        let g = tighten near from to k in let m = tightened 17 near from to k table (omega arith) (omega arith) in
         let c : Closure n (weight g) (weight r) = closure-same n (weight g) (relax (weight near) from to k) (weight r) e (relax-closure n (weight near) (weight near) (tight-closure (weight near) (λ u v hu hv. (omega ints, omega ints))) from to k hf ht (weight g) m h) in
         let less : (u v : ℕ) → u < n → v < n → weight r u v ≤ℤ weight near u v = λ u v hu hv. omega (ints, c .edge u v hu hv, tighten-le near from to k u v) in
         record {
@@ -150,3 +150,7 @@ row-read w w′ on x y m n new e a b c = rw (a, b, c) at e
 -- the fact of a place, wanted so, as the code has it
 pub enters-as : (n : ℕ) (near : Grid) (p : Place) (d want : Bool) (k : ℤ) (answer : Bool) (h : Grid) → want ≡ d → k ≡ taken p d .most → Enters n near (taken p d .right) (taken p d .left) k answer h → Enters n near (taken p want .right) (taken p want .left) (taken p want .most) answer h
 enters-as n near p d want k answer h e f w = rw e (rw f at w)
+
+-- a place whose constant the machine holds
+pub held-most : (last : ℕ) (q : Place) → Placed last q → (left right : ℕ) (most : ℤ) → placeOf left right most ≡ q → placeOf left right (toZ w64 (ofZ w64 most)) ≡ q
+held-most last q p left right most e = ap (placeOf left right) (toZ-ofZ {w = w64} (subst (SFits w64) (sym (ap (λ (a : Place). a .most) e)) (weight-fits last (q .right) (q .left) (q .most) (p .facts true)))) ∙ e

@@ -1,45 +1,33 @@
--- One turn of the tableau: a goal is taken from the stack, and what is asked then has the same answers.
+-- What is asked of one instruction, taken apart: the same values answer.
 use Prim.Native.Nat.{ℕ, zero, suc, _+_, _-_, _≤_, _<_}
-use mathlib.Core.Path.{_≡_, refl, sym, ap, ap₂, _∙_}
-use mathlib.Core.Bool.{Bool, true, false, not, true≢false}
+use mathlib.Core.Path.{_≡_, refl, sym, ap, _∙_, subst}
+use mathlib.Core.Logic.{_⊎_, inl, inr}
+use mathlib.Core.Bool.{Bool, true, false, not, _&&_, _||_, true≢false}
 use mathlib.Core.List.{List, _∷_}
 use native.Mathlib.Omega.{arith}
-use lib.Dec.{eqb}
-use lib.ListN.{length, getD, set}
-use lib.Seq.{getD-set-same, getD-set-other}
-use lib.Signed.{_<ℤ_}
-use lib.IntN.{ℤ, pos, _+ℤ_}
 use Rattle.page_numbers.proofs.Bridge.{ints, +law}
 use Rattle.page_walks.specs.Grid.{Grid, weight}
 use Rattle.page_walks.specs.Walk.{Sat}
 use Rattle.page_formulas.specs.Program.{Values, Place, test}
+use Rattle.program.specs.Built.{mostInstructions}
 use Rattle.page_sheets.specs.Facts.{taken}
-use Rattle.program.specs.Lent.{placeAt}
-use Rattle.tableau.specs.Closed.{Closer}
-use Rattle.tableau.specs.Nodes.{says, Made, Describes}
-use Rattle.tableau.specs.Goals.{noGoal, stackOf, Fit, total, Solves, Decides, Laid, splitting, unlike}
-use Rattle.tableau.specs.declared.types.Goal.{Goal}
+use Rattle.tableau.specs.Closed.{Enters}
+use Rattle.page_formulas.specs.Postfix.{says}
+use Rattle.tableau.specs.Nodes.{kindAt, sizeAt, firstAt, placeIn, Made, Laid, Describes}
+use Rattle.tableau.specs.Goals.{Goal, goal, Same, splitting, unlike, total, Waits, Solves, Standing, Leads, Takes}
+use Rattle.tableau.specs.declared.types.Tree.{Tree}
 use Rattle.tableau.proofs.Tightens.{taken-fact, fact-taken}
-
--- ---- the stack in an array
-
-pub below : (goals : List Goal) (g : Goal) (i h : ℕ) → h ≤ i → stackOf (set goals i g) h ≡ stackOf goals h
-below goals g i zero l = refl
-below goals g i (suc h) l = ap₂ _∷_ (getD-set-other goals i h g noGoal (omega arith)) (below goals g i h (omega arith))
-
-pub put : (goals : List Goal) (g : Goal) (h : ℕ) → h < length goals → stackOf (set goals h g) (suc h) ≡ g ∷ stackOf goals h
-put goals g h l = ap₂ _∷_ (getD-set-same goals h g noGoal l) (below goals g h h (omega arith))
-
-pub fit-height : (sizes : List ℕ) (n : ℕ) (goals : List Goal) (h : ℕ) → Fit sizes n (stackOf goals h) → h ≤ total sizes (stackOf goals h)
-fit-height sizes n goals zero f = omega arith
-fit-height sizes n goals (suc h) f = omega (arith, f .1, fit-height sizes n goals h (f .2))
+use Rattle.page_formulas.proofs.Cases.{joint-case, constant-case}
 
 -- ---- truths
 
-abbrev pub goal : ℕ → Bool → Goal
-goal a d = record { at = a; want = d }
+pub other : (a want : Bool) → ¬ (a ≡ want) → a ≡ not want
+other true true f = absurd (f refl)
+other true false f = refl
+other false true f = refl
+other false false f = absurd (f refl)
 
-not-wanted : (a want : Bool) → not a ≡ want → a ≡ not want
+pub not-wanted : (a want : Bool) → not a ≡ want → a ≡ not want
 not-wanted true true e = absurd (true≢false (sym e))
 not-wanted true false e = refl
 not-wanted false true e = refl
@@ -49,49 +37,59 @@ wanted-not : (a want : Bool) → a ≡ not want → not a ≡ want
 wanted-not a true e = rw e
 wanted-not a false e = rw e
 
--- an instruction of kind 1 or 2 is as wanted where its second operand is, and the first is true at an and, false at an or
-join-back : (k : ℕ) → 0 < k → k < 3 → (want t a b : Bool) → a ≡ eqb k 1 → b ≡ want → says k t a b ≡ want
-join-back zero l m want t a b d e = absurd (omega arith)
-join-back (suc zero) l m want t a b d e = rw d e
-join-back (suc (suc zero)) l m want t a b d e = rw d e
-join-back (suc (suc (suc k))) l m want t a b d e = absurd (omega arith)
+-- an instruction of kind 1 or 2 of which one operand is enough
+pub either-on : (k : ℕ) → 0 < k → k < 3 → (want t a b : Bool) → splitting k want ≡ true → says k t a b ≡ want → (a ≡ want) ⊎ (b ≡ want)
+either-on = joint-case (λ k. (want t a b : Bool) → splitting k want ≡ true → says k t a b ≡ want → (a ≡ want) ⊎ (b ≡ want)) and-on or-on
+  where
+    and-on : (want t a b : Bool) → not want ≡ true → (a && b) ≡ want → (a ≡ want) ⊎ (b ≡ want)
+    and-on want t true b s e = inr e
+    and-on want t false b s e = inl e
 
--- and only there, but where the first operand alone is enough
-join-on : (k : ℕ) → 0 < k → k < 3 → (want t a b : Bool) → (splitting k want ≡ true → ¬ (a ≡ want)) → says k t a b ≡ want → (a ≡ eqb k 1) × (b ≡ want)
-join-on zero l m want t a b s e = absurd (omega arith)
-join-on (suc zero) l m want t true b s e = (refl, e)
-join-on (suc zero) l m true t false b s e = absurd (true≢false (sym e))
-join-on (suc zero) l m false t false b s e = absurd (s refl refl)
-join-on (suc (suc zero)) l m want t false b s e = (refl, e)
-join-on (suc (suc zero)) l m true t true b s e = absurd (s refl refl)
-join-on (suc (suc zero)) l m false t true b s e = absurd (true≢false e)
-join-on (suc (suc (suc k))) l m want t a b s e = absurd (omega arith)
+    or-on : (want t a b : Bool) → want ≡ true → (a || b) ≡ want → (a ≡ want) ⊎ (b ≡ want)
+    or-on want t true b s e = inl e
+    or-on want t false b s e = inr e
 
-join-first : (k : ℕ) → 0 < k → k < 3 → (want t a b : Bool) → splitting k want ≡ true → a ≡ want → says k t a b ≡ want
-join-first zero l m want t a b s e = absurd (omega arith)
-join-first (suc zero) l m true t a b s e = absurd (true≢false (sym s))
-join-first (suc zero) l m false t a b s e = rw e
-join-first (suc (suc zero)) l m true t a b s e = rw e
-join-first (suc (suc zero)) l m false t a b s e = absurd (true≢false (sym s))
-join-first (suc (suc (suc k))) l m want t a b s e = absurd (omega arith)
+pub either-back : (k : ℕ) → 0 < k → k < 3 → (want t a b : Bool) → splitting k want ≡ true → (a ≡ want) ⊎ (b ≡ want) → says k t a b ≡ want
+either-back = joint-case (λ k. (want t a b : Bool) → splitting k want ≡ true → (a ≡ want) ⊎ (b ≡ want) → says k t a b ≡ want) and-back or-back
+  where
+    and-back : (want t a b : Bool) → not want ≡ true → (a ≡ want) ⊎ (b ≡ want) → (a && b) ≡ want
+    and-back true t a b s o = absurd (true≢false (sym s))
+    and-back false t false b s o = refl
+    and-back false t true b s (inl e) = absurd (true≢false e)
+    and-back false t true b s (inr e) = e
+
+    or-back : (want t a b : Bool) → want ≡ true → (a ≡ want) ⊎ (b ≡ want) → (a || b) ≡ want
+    or-back false t a b s o = absurd (true≢false (sym s))
+    or-back true t true b s o = refl
+    or-back true t false b s (inl e) = absurd (true≢false (sym e))
+    or-back true t false b s (inr e) = e
+
+-- one of which both are needed
+both-on : (k : ℕ) → 0 < k → k < 3 → (want t a b : Bool) → splitting k want ≡ false → says k t a b ≡ want → (a ≡ want) × (b ≡ want)
+both-on = joint-case (λ k. (want t a b : Bool) → splitting k want ≡ false → says k t a b ≡ want → (a ≡ want) × (b ≡ want)) and-on or-on
+  where
+    and-on : (want t a b : Bool) → not want ≡ false → (a && b) ≡ want → (a ≡ want) × (b ≡ want)
+    and-on false t a b s e = absurd (true≢false s)
+    and-on true t true b s e = (refl, e)
+    and-on true t false b s e = absurd (true≢false (sym e))
+
+    or-on : (want t a b : Bool) → want ≡ false → (a || b) ≡ want → (a ≡ want) × (b ≡ want)
+    or-on true t a b s e = absurd (true≢false s)
+    or-on false t false b s e = (refl, e)
+    or-on false t true b s e = absurd (true≢false e)
+
+both-back : (k : ℕ) → 0 < k → k < 3 → (want t a b : Bool) → a ≡ want → b ≡ want → says k t a b ≡ want
+both-back = joint-case (λ k. (want t a b : Bool) → a ≡ want → b ≡ want → says k t a b ≡ want) (λ want t a b d e. rw (d, e) (twice want .0)) (λ want t a b d e. rw (d, e) (twice want .1))
+  where
+    twice : (a : Bool) → ((a && a) ≡ a) × ((a || a) ≡ a)
+    twice true = (refl, refl)
+    twice false = (refl, refl)
 
 constant-is : (k : ℕ) → 4 ≤ k → (want t a b : Bool) → unlike k want ≡ false → says k t a b ≡ want
-constant-is zero l want t a b u = absurd (omega arith)
-constant-is (suc zero) l want t a b u = absurd (omega arith)
-constant-is (suc (suc zero)) l want t a b u = absurd (omega arith)
-constant-is (suc (suc (suc zero))) l want t a b u = absurd (omega arith)
-constant-is (suc (suc (suc (suc zero)))) l true t a b u = refl
-constant-is (suc (suc (suc (suc zero)))) l false t a b u = absurd (true≢false u)
-constant-is (suc (suc (suc (suc (suc k))))) l want t a b u = sym u
+constant-is = constant-case (λ k. (want t a b : Bool) → unlike k want ≡ false → says k t a b ≡ want) (λ want t a b u. sym (not-wanted want false u)) (λ k want t a b u. sym u)
 
 constant-isnt : (k : ℕ) → 4 ≤ k → (want t a b : Bool) → unlike k want ≡ true → says k t a b ≡ want → ⊥
-constant-isnt zero l want t a b u e = absurd (omega arith)
-constant-isnt (suc zero) l want t a b u e = absurd (omega arith)
-constant-isnt (suc (suc zero)) l want t a b u e = absurd (omega arith)
-constant-isnt (suc (suc (suc zero))) l want t a b u e = absurd (omega arith)
-constant-isnt (suc (suc (suc (suc zero)))) l true t a b u e = true≢false (sym u)
-constant-isnt (suc (suc (suc (suc zero)))) l false t a b u e = true≢false e
-constant-isnt (suc (suc (suc (suc (suc k))))) l want t a b u e = true≢false (sym u ∙ sym e)
+constant-isnt = constant-case (λ k. (want t a b : Bool) → unlike k want ≡ true → says k t a b ≡ want → ⊥) (λ want t a b u e. true≢false (e ∙ not-wanted want true u)) (λ k want t a b u e. true≢false (sym u ∙ sym e))
 
 -- the code's tests
 pub splits-other : (k : ℕ) (want : Bool) → ¬ (k ≡ 1) → want ≡ splitting k want
@@ -107,78 +105,134 @@ fails-other (suc (suc (suc zero))) want f = refl
 fails-other (suc (suc (suc (suc zero)))) want f = absurd (f refl)
 fails-other (suc (suc (suc (suc (suc k))))) want f = refl
 
--- ---- what is asked, before and after
+module _ (t : Tree) where
+  -- ---- one thing after another
 
--- the same values answer both
-abbrev pub Same : (Values → Type 0) → (Values → Type 0) → Type 0
-Same S T = (x : Values) → (S x → T x) × (T x → S x)
+  pub leads-self : (near : Grid) (gs : List Goal) → Standing t near gs → Leads t near gs near gs
+  leads-self near gs s = record { standing = s; less = omega arith; old = λ x h. h; same = λ v d x. (λ y. y, λ y. y) }
 
-pub decides-same : (b : Bool) (S T : Values → Type 0) → Same S T → Decides b S → Decides b T
-decides-same true S T e d = (d .0, e (d .0) .0 (d .1))
-decides-same false S T e d = λ x t. d x (e x .1 t)
+  -- other goals with the same values, and no more of them
+  pub takes-same : (near : Grid) (A B : List Goal) → total t B ≤ total t A → ((v : Values → ℕ → Bool) → Describes t v → Same (Solves t v near A) (Solves t v near B)) → (closed : Bool) (near′ : Grid) (C : List Goal) → Takes t near B closed near′ C → Takes t near A closed near′ C
+  takes-same near A B l e true near′ C n = λ v d x s. n v d x (e v d x .0 s)
+  takes-same near A B l e false near′ C n = record { standing = n .standing; less = omega (arith, n .less); old = n .old; same = λ v d x. (λ s. n .same v d x .0 (e v d x .0 s), λ s. e v d x .1 (n .same v d x .1 s)) }
 
-module _ (kinds first second sizes left right : List ℕ) (most : List ℤ) (last : ℕ) (laid : Laid kinds first second sizes left right most last) where
-  module _ (g : Goal) (gs : List Goal) (fit : Fit sizes (length kinds) (g ∷ gs)) where
-    abbrev a : ℕ
-    a = getD first (g .at) 0
+  pub takes-then : (near : Grid) (A : List Goal) (near′ : Grid) (B : List Goal) → Leads t near A near′ B → (closed : Bool) (near″ : Grid) (C : List Goal) → Takes t near′ B closed near″ C → Takes t near A closed near″ C
+  takes-then near A near′ B w true near″ C n = λ v d x s. n v d x (w .same v d x .0 s)
+  takes-then near A near′ B w false near″ C n = record { standing = n .standing; less = omega (arith, n .less, w .less); old = λ x h. w .old x (n .old x h); same = λ v d x. (λ s. n .same v d x .0 (w .same v d x .0 s), λ s. w .same v d x .1 (n .same v d x .1 s)) }
 
-    abbrev b : ℕ
-    b = getD second (g .at) 0
+  -- the same goal, as the code has it
+  pub takes-as : (near : Grid) (gs : List Goal) (j k : ℕ) (d e : Bool) → j ≡ k → d ≡ e → (closed : Bool) (near′ : Grid) (gs′ : List Goal) → Takes t near (goal j d ∷ gs) closed near′ gs′ → Takes t near (goal k e ∷ gs) closed near′ gs′
+  takes-as near gs j k d e p q closed near′ gs′ n = subst (λ m. Takes t near (goal m e ∷ gs) closed near′ gs′) p (subst (λ m. Takes t near (goal j m ∷ gs) closed near′ gs′) q n)
+
+  -- with one goal more on both sides
+  pub takes-more : (g : Goal) (near : Grid) (A : List Goal) (near′ : Grid) (B : List Goal) → Leads t near A near′ B → (closed : Bool) (near″ : Grid) (C : List Goal) → Takes t near′ (g ∷ B) closed near″ C → Takes t near (g ∷ A) closed near″ C
+  takes-more g near A near′ B w closed near″ C n = go closed n
+    where
+      on : (v : Values → ℕ → Bool) → Describes t v → (x : Values) → Solves t v near (g ∷ A) x → Solves t v near′ (g ∷ B) x
+      on v d x s = let r = w .same v d x .0 (record { at-zero = s .at-zero; sat = s .sat; met = s .met .1 }) in record { at-zero = r .at-zero; sat = r .sat; met = (s .met .0, r .met) }
+
+      back : (v : Values → ℕ → Bool) → Describes t v → (x : Values) → Solves t v near′ (g ∷ B) x → Solves t v near (g ∷ A) x
+      back v d x s = let r = w .same v d x .1 (record { at-zero = s .at-zero; sat = s .sat; met = s .met .1 }) in record { at-zero = r .at-zero; sat = r .sat; met = (s .met .0, r .met) }
+
+      go : (closed : Bool) → Takes t near′ (g ∷ B) closed near″ C → Takes t near (g ∷ A) closed near″ C
+      go true n = λ v d x s. n v d x (on v d x s)
+      go false n = record { standing = n .standing; less = omega (arith, n .less, w .less); old = λ x h. w .old x (n .old x h); same = λ v d x. (λ s. n .same v d x .0 (on v d x s), λ s. back v d x (n .same v d x .1 s)) }
+
+  -- ---- one instruction
+  module _ (near : Grid) (gs : List Goal) (i : ℕ) (want : Bool) (s : Standing t near gs) (h : i < t .count) where
+    abbrev g : Goal
+    g = goal i want
 
     abbrev k : ℕ
-    k = getD kinds (g .at) 0
+    k = kindAt t i
 
     abbrev q : Place
-    q = taken (placeAt left right most a) (g .want)
+    q = taken (placeIn t i) want
 
-    pub made : Made kinds first second sizes (length most) (g .at)
-    made = laid .shaped (g .at) (fit .0) (fit .1)
+    node : Made t i
+    node = s .laid .made i h
 
-    module _ (v : Values → ℕ → Bool) (d : Describes v (placeAt left right most) kinds first second sizes (length kinds)) where
-      told : (x : Values) → v x (g .at) ≡ says k (test x (placeAt left right most a)) (v x a) (v x b)
-      told x = d x (g .at) (fit .0) (fit .1)
+    module _ (v : Values → ℕ → Bool) (d : Describes t v) (x : Values) where
+      place-told : k ≡ 0 → v x i ≡ test x (placeIn t i)
+      place-told e = d .told x i h ∙ ap (λ m. says m (test x (placeIn t i)) (v x (firstAt t i)) (v x (i - 1))) e
 
-      place-told : k ≡ 0 → (x : Values) → v x (g .at) ≡ test x (placeAt left right most a)
-      place-told e x = told x ∙ ap (λ m. says m (test x (placeAt left right most a)) (v x a) (v x b)) e
+      not-told : k ≡ 3 → v x i ≡ not (v x (i - 1))
+      not-told e = d .told x i h ∙ ap (λ m. says m (test x (placeIn t i)) (v x (firstAt t i)) (v x (i - 1))) e
 
-      pub clash : (near : Grid) → k ≡ 0 → (weight near (q .left) (q .right) +ℤ q .most) <ℤ pos 0 → (x : Values) → ¬ Solves v last near (g ∷ gs) x
-      unfolding Sat
-      clash near e s x r =
-          let f = laid .placed .facts a (made .place e) (g .want) in
-          let h = taken-fact x (placeAt left right most a) (g .want) (sym (place-told e x) ∙ r .met .0) in
-          omega (ints, h, r .sat (q .left) (q .right) (f .to-is) (f .from-is), s, +law (x (q .right)) (q .most), +law (x (q .left)) (weight near (q .left) (q .right)), +law (weight near (q .left) (q .right)) (q .most))
+    pub demand-place : k ≡ 0 → (closed : Bool) (r : Grid) → Enters (suc (t .last)) near (q .right) (q .left) (q .most) closed r → Takes t near (g ∷ gs) closed r gs
+    unfolding Sat
+    demand-place e true r c = λ v d x n.
+        let f = node .place e .1 .facts want in let w = taken-fact x (placeIn t i) want (sym (place-told v d x e) ∙ n .met .0) in
+        omega (ints, w, n .sat (q .left) (q .right) (f .to-is) (f .from-is), c, +law (x (q .right)) (q .most), +law (x (q .left)) (weight near (q .left) (q .right)), +law (weight near (q .left) (q .right)) (q .most))
+    demand-place e false r c = record {
+      standing = record { laid = s .laid; table = c .sized; tight = c .tight; waiting = s .waiting; enough = s .enough };
+      less = omega arith;
+      old = c .old;
+      same = λ v d x. (
+        λ n. record { at-zero = n .at-zero; sat = c .both x (n .sat) (taken-fact x (placeIn t i) want (sym (place-told v d x e) ∙ n .met .0)); met = n .met .1 },
+        λ n. record { at-zero = n .at-zero; sat = c .old x (n .sat); met = (place-told v d x e ∙ fact-taken x (placeIn t i) want (c .fact x (n .sat)), n .met) },
+      );
+    }
 
-      pub place-same : (near r : Grid) → k ≡ 0 → Closer (suc last) near (q .right) (q .left) (q .most) r → Same (Solves v last near (g ∷ gs)) (Solves v last r gs)
-      place-same near r e c x = (
-        λ s. record { at-zero = s .at-zero; sat = c .both x (s .sat) (taken-fact x (placeAt left right most a) (g .want) (sym (place-told e x) ∙ s .met .0)); met = s .met .1 },
-        λ s. record { at-zero = s .at-zero; sat = c .old x (s .sat); met = (place-told e x ∙ fact-taken x (placeAt left right most a) (g .want) (c .fact x (s .sat)), s .met) },
-      )
+    pub demand-constant : 4 ≤ k → (closed : Bool) → closed ≡ unlike k want → Takes t near (g ∷ gs) closed near gs
+    demand-constant e true u = λ v d x n. constant-isnt k e want (test x (placeIn t i)) (v x (firstAt t i)) (v x (i - 1)) (sym u) (sym (d .told x i h) ∙ n .met .0)
+    demand-constant e false u = record {
+      standing = s;
+      less = omega arith;
+      old = λ x n. n;
+      same = λ v d x. (
+        λ n. record { at-zero = n .at-zero; sat = n .sat; met = n .met .1 },
+        λ n. record { at-zero = n .at-zero; sat = n .sat; met = (d .told x i h ∙ constant-is k e want (test x (placeIn t i)) (v x (firstAt t i)) (v x (i - 1)) (sym u), n .met) },
+      );
+    }
 
-      pub constant-fails : (near : Grid) → 4 ≤ k → unlike k (g .want) ≡ true → (x : Values) → ¬ Solves v last near (g ∷ gs) x
-      constant-fails near l u x s = constant-isnt k l (g .want) (test x (placeAt left right most a)) (v x a) (v x b) u (sym (told x) ∙ s .met .0)
+    pub demand-not : k ≡ 3 → (closed : Bool) (r : Grid) (gs′ : List Goal) → Takes t near (goal (i - 1) (not want) ∷ gs) closed r gs′ → Takes t near (g ∷ gs) closed r gs′
+    demand-not e closed r gs′ n = takes-same near (g ∷ gs) (goal (i - 1) (not want) ∷ gs) (omega (arith, node .one e .1)) (λ v d x. (
+      λ n. record { at-zero = n .at-zero; sat = n .sat; met = (not-wanted (v x (i - 1)) want (sym (not-told v d x e) ∙ n .met .0), n .met .1) },
+      λ n. record { at-zero = n .at-zero; sat = n .sat; met = (not-told v d x e ∙ wanted-not (v x (i - 1)) want (n .met .0), n .met .1) },
+    )) closed r gs′ n
 
-      pub constant-same : (near : Grid) → 4 ≤ k → unlike k (g .want) ≡ false → Same (Solves v last near (g ∷ gs)) (Solves v last near gs)
-      constant-same near l u x = (
-        λ s. record { at-zero = s .at-zero; sat = s .sat; met = s .met .1 },
-        λ s. record { at-zero = s .at-zero; sat = s .sat; met = (told x ∙ constant-is k l (g .want) (test x (placeAt left right most a)) (v x a) (v x b) u, s .met) },
-      )
+    -- ---- two operands
+    module _ (l : 0 < k) (m : k < 3) where
+      abbrev a : ℕ
+      a = firstAt t i
 
-      not-told : k ≡ 3 → (x : Values) → v x (g .at) ≡ not (v x a)
-      not-told e x = told x ∙ ap (λ m. says m (test x (placeAt left right most a)) (v x a) (v x b)) e
+      abbrev b : ℕ
+      b = i - 1
 
-      pub not-same : (near : Grid) → k ≡ 3 → Same (Solves v last near (g ∷ gs)) (Solves v last near (goal a (not (g .want)) ∷ gs))
-      not-same near e x = (
-        λ s. record { at-zero = s .at-zero; sat = s .sat; met = (not-wanted (v x a) (g .want) (sym (not-told e x) ∙ s .met .0), s .met .1) },
-        λ s. record { at-zero = s .at-zero; sat = s .sat; met = (not-told e x ∙ wanted-not (v x a) (g .want) (s .met .0), s .met .1) },
-      )
+      pub waits : splitting k want ≡ true → Waits t g
+      waits e = record { in-tree = h; kind-low = l; kind-high = m; splits = e }
 
-      -- the first operand is enough
-      pub first-solves : (near : Grid) → 0 < k → k < 3 → splitting k (g .want) ≡ true → (x : Values) → Solves v last near (goal a (g .want) ∷ gs) x → Solves v last near (g ∷ gs) x
-      first-solves near l m e x s = record { at-zero = s .at-zero; sat = s .sat; met = (told x ∙ join-first k l m (g .want) (test x (placeAt left right most a)) (v x a) (v x b) e (s .met .0), s .met .1) }
+      pub demand-waits : splitting k want ≡ true → sizeAt t i + total t gs ≤ mostInstructions → Takes t near (g ∷ gs) false near (g ∷ gs)
+      demand-waits e f = leads-self near (g ∷ gs) (record { laid = s .laid; table = s .table; tight = s .tight; waiting = (waits e, s .waiting); enough = f })
 
-      -- both are needed, or the first leads nowhere
-      pub join-same : (near : Grid) → 0 < k → k < 3 → (splitting k (g .want) ≡ true → (x : Values) → ¬ Solves v last near (goal a (g .want) ∷ gs) x) → Same (Solves v last near (g ∷ gs)) (Solves v last near (goal a (eqb k 1) ∷ goal b (g .want) ∷ gs))
-      join-same near l m f x = (
-        λ s. let j = join-on k l m (g .want) (test x (placeAt left right most a)) (v x a) (v x b) (λ e h. f e x (record { at-zero = s .at-zero; sat = s .sat; met = (h, s .met .1) })) (sym (told x) ∙ s .met .0) in record { at-zero = s .at-zero; sat = s .sat; met = (j .0, (j .1, s .met .1)) },
-        λ s. record { at-zero = s .at-zero; sat = s .sat; met = (told x ∙ join-back k l m (g .want) (test x (placeAt left right most a)) (v x a) (v x b) (s .met .0) (s .met .1 .0), s .met .1 .1) },
-      )
+      -- both are needed
+      pub both-same : splitting k want ≡ false → (closed : Bool) (r : Grid) (gs′ : List Goal) → Takes t near (goal b want ∷ goal a want ∷ gs) closed r gs′ → Takes t near (g ∷ gs) closed r gs′
+      both-same e closed r gs′ n = takes-same near (g ∷ gs) (goal b want ∷ goal a want ∷ gs) (omega (arith, node .two l m .1)) (λ v d x. (
+        λ n. let j = both-on k l m want (test x (placeIn t i)) (v x a) (v x b) e (sym (d .told x i h) ∙ n .met .0) in record { at-zero = n .at-zero; sat = n .sat; met = (j .1, (j .0, n .met .1)) },
+        λ n. record { at-zero = n .at-zero; sat = n .sat; met = (d .told x i h ∙ both-back k l m want (test x (placeIn t i)) (v x a) (v x b) (n .met .1 .0) (n .met .0), n .met .1 .1) },
+      )) closed r gs′ n
+
+      pub first-closed : splitting k want ≡ false → (r : Grid) (gs′ : List Goal) → Takes t near (goal a want ∷ gs) true r gs′ → Takes t near (g ∷ gs) true r gs′
+      first-closed e r gs′ n = both-same e true r gs′ (λ v d x w. n v d x (record { at-zero = w .at-zero; sat = w .sat; met = w .met .1 }))
+
+      pub demand-both : splitting k want ≡ false → (near′ : Grid) (B : List Goal) → Leads t near (goal a want ∷ gs) near′ B → (closed : Bool) (r : Grid) (gs′ : List Goal) → Takes t near′ (goal b want ∷ B) closed r gs′ → Takes t near (g ∷ gs) closed r gs′
+      demand-both e near′ B w closed r gs′ n = both-same e closed r gs′ (takes-more (goal b want) near (goal a want ∷ gs) near′ B w closed r gs′ n)
+
+  -- ---- a goal of which one operand is enough
+  module _ (laid : Laid t) (g : Goal) (w : Waits t g) where
+    abbrev first : ℕ
+    first = firstAt t (g .at)
+
+    abbrev second : ℕ
+    second = g .at - 1
+
+    pub smaller : (sizeAt t second < g .at) × (sizeAt t first + sizeAt t second < sizeAt t (g .at))
+    smaller = laid .made (g .at) (w .in-tree) .two (w .kind-low) (w .kind-high)
+
+    module _ (v : Values → ℕ → Bool) (d : Describes t v) (x : Values) where
+      pub met-on : v x (g .at) ≡ g .want → (v x first ≡ g .want) ⊎ (v x second ≡ g .want)
+      met-on e = either-on (kindAt t (g .at)) (w .kind-low) (w .kind-high) (g .want) (test x (placeIn t (g .at))) (v x first) (v x second) (w .splits) (sym (d .told x (g .at) (w .in-tree)) ∙ e)
+
+      pub met-back : (v x first ≡ g .want) ⊎ (v x second ≡ g .want) → v x (g .at) ≡ g .want
+      met-back o = d .told x (g .at) (w .in-tree) ∙ either-back (kindAt t (g .at)) (w .kind-low) (w .kind-high) (g .want) (test x (placeIn t (g .at))) (v x first) (v x second) (w .splits) o

@@ -2,17 +2,14 @@
 use Prim.Native.Nat.{ℕ, _<_}
 use mathlib.Core.Path.{_≡_}
 use mathlib.Core.Bool.{Bool, true, false}
-use mathlib.Core.List.{List}
-use lib.ListN.{length}
 use lib.IntN.{ℤ, pos, _+ℤ_}
 use lib.Signed.{_≤ℤ_, _<ℤ_}
 use Rattle.page_meaning.specs.Limits.{mostVertices}
 use Rattle.page_walks.specs.Grid.{Grid, weight, far}
 use Rattle.page_walks.specs.Sizes.{Sized}
 use Rattle.page_walks.specs.Walk.{Sat}
-use Rattle.page_formulas.specs.Program.{Values}
+use Rattle.page_formulas.specs.Program.{Values, Place}
 use Rattle.page_sheets.specs.Facts.{taken}
-use Rattle.program.specs.Lent.{placeAt}
 use Rattle.grid.specs.Edges.{Fact}
 
 -- least sums between the vertices below n: 0 from each to itself, no way round is less, none is above a missing edge's weight
@@ -34,8 +31,10 @@ abbrev pub Enters : ℕ → Grid → ℕ → ℕ → ℤ → Bool → Grid → T
 Enters n near from to k true r = (weight near to from +ℤ k) <ℤ pos 0
 Enters n near from to k false r = Closer n near from to k r
 
--- places between vertices up to the last, with small constants
-pub record Placed (last : ℕ) (left right : List ℕ) (most : List ℤ) : Type 0 where
-  pub few : last < 17
-  pub as-long : (length left ≡ length most) × (length right ≡ length most)
-  pub facts : (i : ℕ) → i < length most → (d : Bool) → Fact last (taken (placeAt left right most i) d .right) (taken (placeAt left right most i) d .left) (taken (placeAt left right most i) d .most)
+abbrev pub placeOf : ℕ → ℕ → ℤ → Place
+placeOf left right most = record { left = left; right = right; most = most }
+
+-- a place between vertices up to the last, with a small constant: a fact where it is wanted true, and where false
+pub record Placed (last : ℕ) (q : Place) : Type 0 where
+  pub few : last < mostVertices
+  pub facts : (d : Bool) → Fact last (taken q d .right) (taken q d .left) (taken q d .most)

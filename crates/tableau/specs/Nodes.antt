@@ -1,73 +1,71 @@
--- A program as a tree: what the tables of operands say of each instruction, and what each instruction's truth is.
-use Prim.Native.Nat.{ℕ, zero, suc, _+_, _≤_, _<_}
+-- A program as a tree, in the code's tables.
+use Prim.Native.Nat.{ℕ, suc, _+_, _-_, _≤_, _<_}
 use mathlib.Core.Path.{_≡_}
-use mathlib.Core.Bool.{Bool, true, false, not, _&&_, _||_}
-use mathlib.Core.List.{List, []}
-use lib.ListN.{length, getD, take}
-use Rattle.page_formulas.specs.Program.{Values, Place, Program, places, test, run, top, truth}
-use Rattle.page_formulas.specs.Kinds.{kindsOf, nowhere}
-use Rattle.tableau.specs.declared.types.Root.{Root}
+use mathlib.Core.Bool.{Bool}
+use mathlib.Core.List.{List}
+use lib.ListN.{length, getD}
+use Rattle.page_meaning.specs.Limits.{mostVertices}
+use Rattle.page_formulas.specs.Program.{Values, Place, Program, test, truth}
+use Rattle.program.specs.Built.{mostInstructions, mostPlaces}
+use Rattle.program.specs.declared.types.Program as compiled
+use Rattle.page_formulas.specs.Formulas.{Formula}
+use Rattle.page_formulas.specs.Proper.{Proper}
+use Rattle.program.specs.Lent.{placeAt, Coded}
+use Rattle.page_formulas.specs.Postfix.{says, firstOf, sizeOf, valueAt}
+use Rattle.tableau.specs.Closed.{Placed}
+use Rattle.tableau.specs.declared.types.Tree.{Tree}
 
--- how many truths an instruction takes from the stack, by its kind
-abbrev pub arity : ℕ → ℕ
-arity zero = 0
-arity (suc zero) = 2
-arity (suc (suc zero)) = 2
-arity (suc (suc (suc zero))) = 1
-arity (suc (suc (suc (suc k)))) = 0
+-- what the size of instruction i is read from: its operands stand before it
+pub record Reading (kinds sizes : List ℕ) (i : ℕ) : Type 0 where
+  pub short : i < mostInstructions
+  pub one : 0 < getD kinds i 0 → getD kinds i 0 < 4 → 0 < i
+  pub two : 0 < getD kinds i 0 → getD kinds i 0 < 3 → getD sizes (i - 1) 0 < i
+  pub small : sizeOf kinds sizes i ≤ suc i
 
--- how many places there are with it
-abbrev pub counted : ℕ → ℕ → ℕ
-counted zero n = n + 1
-counted (suc k) n = n
+-- ---- what they say
+module _ (t : Tree) where
+  abbrev pub kindAt : ℕ → ℕ
+  kindAt j = getD (t .kinds) j 0
 
--- the truth that it pushes, from its place's and its operands'
-abbrev pub says : ℕ → Bool → Bool → Bool → Bool
-says zero t a b = t
-says (suc zero) t a b = a && b
-says (suc (suc zero)) t a b = a || b
-says (suc (suc (suc zero))) t a b = not a
-says (suc (suc (suc (suc zero)))) t a b = true
-says (suc (suc (suc (suc (suc k))))) t a b = false
+  abbrev pub sizeAt : ℕ → ℕ
+  sizeAt j = getD (t .sizes) j 0
 
--- ---- the tables, of the first n instructions; an instruction of size 0 found too few operands and is in no tree
-module _ (kinds first second sizes : List ℕ) where
-  abbrev pub size : ℕ → ℕ
-  size j = getD sizes j 0
+  abbrev pub firstAt : ℕ → ℕ
+  firstAt j = firstOf (t .sizes) j
 
-  -- its operands come before it and are smaller; a place has a number below few
-  pub record Made (few j : ℕ) : Type 0 where
-    pub place : getD kinds j 0 ≡ 0 → getD first j 0 < few
-    pub one : getD kinds j 0 ≡ 3 → (getD first j 0 < j) × (0 < size (getD first j 0)) × (size (getD first j 0) < size j)
-    pub two : 0 < getD kinds j 0 → getD kinds j 0 < 3 → (getD first j 0 < j) × (getD second j 0 < j) × (0 < size (getD first j 0)) × (0 < size (getD second j 0)) × (size (getD first j 0) + size (getD second j 0) < size j)
+  abbrev pub numberAt : ℕ → ℕ
+  numberAt j = getD (t .numbers) j 0
 
-  abbrev pub Shaped : ℕ → ℕ → Type 0
-  Shaped few n = (j : ℕ) → j < n → 0 < size j → Made few j
+  abbrev pub placeIn : ℕ → Place
+  placeIn j = placeAt (t .left) (t .right) (t .most) (numberAt j)
 
--- v gives each instruction's truth
-abbrev pub Describes : (Values → ℕ → Bool) → (ℕ → Place) → List ℕ → List ℕ → List ℕ → List ℕ → ℕ → Type 0
-Describes v place kinds first second sizes n =
-    (x : Values) (j : ℕ) → j < n → 0 < getD sizes j 0 → v x j ≡ says (getD kinds j 0) (test x (place (getD first j 0))) (v x (getD first j 0)) (v x (getD second j 0))
+  -- its operands come before it and are smaller
+  pub record Made (j : ℕ) : Type 0 where
+    pub some : 0 < sizeAt j
+    pub place : kindAt j ≡ 0 → (numberAt j < mostPlaces) × Placed (t .last) (placeIn j)
+    pub one : kindAt j ≡ 3 → (0 < j) × (sizeAt (j - 1) < sizeAt j)
+    pub two : 0 < kindAt j → kindAt j < 3 → (sizeAt (j - 1) < j) × (sizeAt (firstAt j) + sizeAt (j - 1) < sizeAt j)
 
--- what stands on top after the instruction
-abbrev pub valueAt : Program → Values → ℕ → Bool
-valueAt p x i = top (run x (take (suc i) p) [])
+  pub record Laid : Type 0 where
+    pub short : t .count ≤ mostInstructions
+    pub few : t .last < mostVertices
+    pub made : (j : ℕ) → j < t .count → Made j
 
--- place i of a program
-abbrev pub placeOf : Program → ℕ → Place
-placeOf p i = getD (places p) i nowhere
+  -- v gives each instruction's truth
+  pub record Describes (v : Values → ℕ → Bool) : Type 0 where
+    pub told : (x : Values) (j : ℕ) → j < t .count → v x j ≡ says (kindAt j) (test x (placeIn j)) (v x (firstAt j)) (v x (j - 1))
 
--- the truth of the whole
-abbrev pub whole : (ℕ → Bool) → ℕ → ℕ → Bool
-whole v at zero = true
-whole v at (suc h) = v at
+-- a compiled program of some proper formula, whose last vertex that is
+pub record Planted (c : compiled.Program) (last : ℕ) : Type 0 where
+  pub formula : Formula
+  pub coded : Coded formula (c .kinds) (c .count) (c .left) (c .right) (c .most) (c .places)
+  pub last-is : last ≡ length (formula .ranges)
+  pub proper : Proper formula
 
--- the tables of a program with these kinds
-pub record Linked (kinds first second sizes : List ℕ) (r : Root) : Type 0 where
-  pub few : ℕ
-  pub shaped : Shaped kinds first second sizes few (length kinds)
-  pub root : 0 < r .height → (r .at < length kinds) × (0 < getD sizes (r .at) 0) × (getD sizes (r .at) 0 ≤ length kinds)
-  pub low : r .height ≤ 1
-  pub few-is : (p : Program) → kindsOf p ≡ kinds → few ≡ length (places p)
-  pub describes : (p : Program) → kindsOf p ≡ kinds → Describes (valueAt p) (placeOf p) kinds first second sizes (length kinds)
-  pub truth-is : (p : Program) → kindsOf p ≡ kinds → (x : Values) → truth x p ≡ whole (valueAt p x) (r .at) (r .height)
+-- the tree is the program's
+pub record Tells (t : Tree) (p : Program) : Type 0 where
+  pub laid : Laid t
+  pub some : 0 < t .count
+  pub whole : sizeAt t (t .count - 1) ≤ mostInstructions
+  pub describes : Describes t (valueAt p)
+  pub truth-is : (x : Values) → truth x p ≡ valueAt p x (t .count - 1)

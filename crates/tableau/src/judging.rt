@@ -1,5 +1,5 @@
 // The verdict for a question that was read: no where a formula is true at some values in range.
-use crate::deciding::formula_opens;
+use crate::opening::formula_opens;
 use formula::formulas::formula;
 use formula::formulas::formula_count;
 use outcome::Verdict;
@@ -19,7 +19,8 @@ pub fn judge(q: Question, asked: u8) -> Verdict
     let mut i: usize = 0;
     while i < n {
         let f = formula(q, asked, i);
-        if formula_opens(f) {
+        let r = formula_opens(f);
+        if r.open {
             return Verdict::No;
         }
         i += 1;

@@ -1,8 +1,12 @@
 // The verdict alone: whether a formula is true at some values in range, by the formula's own structure.
 mod beginning;
-mod deciding;
+mod demanding;
+mod goals;
 pub mod judging;
-mod linking;
-mod opening;
+mod looking;
+pub mod opening;
 mod placing;
+mod sifting;
+mod solving;
+pub mod treeing;
 pub mod types;

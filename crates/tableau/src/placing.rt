@@ -1,18 +1,23 @@
 // A place that is wanted true, or false: one fact more, put into the closure of those before it.
+use crate::types::VERTICES;
 use closure::relax_row;
 use ints::weights::negation;
 ghost use Prim.Native.Nat.{suc, _<_};
-ghost use lib.ListN.{length};
 ghost use Rattle.page_meaning.specs.Limits.{mostVertices};
 ghost use Rattle.page_walks.specs.Sizes.{Sized};
-ghost use Rattle.program.specs.Lent.{placeAt};
 ghost use Rattle.page_sheets.specs.Facts.{taken};
 ghost use Rattle.grid.specs.Edges.{Fact};
-ghost use Rattle.tableau.specs.Closed.{Tight, Enters, Placed};
+ghost use Rattle.tableau.specs.Closed.{Tight, Enters, Placed, placeOf};
 
 // Does an edge of weight k contradict the facts? If not, it is one of them now; a row that it doesn't lower at its end stays.
-fn enter(near: &mut [[i64; 17]; 17], last: usize, from: usize, to: usize, k: i64) -> bool
-    requires { ⌜ (last < 17) × Fact last from to k × Sized mostVertices (now near) × Tight (suc last) (now near) ⌝ }
+fn enter(
+    near: &mut [[i64; VERTICES]; VERTICES],
+    last: usize,
+    from: usize,
+    to: usize,
+    k: i64,
+) -> bool
+    requires { ⌜ (last < mostVertices) × Fact last from to k × Sized mostVertices (now near) × Tight (suc last) (now near) ⌝ }
     ensures { λ r. ⌜ Enters (suc last) (now (near .entry)) from to k r (now (near .exit)) ⌝ }
 {
     let round = near[to][from];
@@ -35,24 +40,20 @@ fn enter(near: &mut [[i64; 17]; 17], last: usize, from: usize, to: usize, k: i64
     false
 }
 
-// Does the place, wanted so, contradict the facts? If not, it is one of them now.
+// Does the place left − right ≤ most, wanted so, contradict the facts? If not, it is one of them now.
 pub fn enter_place(
-    near: &mut [[i64; 17]; 17],
-    left: &[u8],
-    right: &[u8],
-    most: &[i64],
+    near: &mut [[i64; VERTICES]; VERTICES],
     last: usize,
-    p: usize,
+    left: usize,
+    right: usize,
+    most: i64,
     want: bool,
 ) -> bool
-    requires { ⌜ Placed last (now left) (now right) (now most) × (p < length (now most)) × Sized mostVertices (now near) × Tight (suc last) (now near) ⌝ }
-    ensures { λ r. ⌜ Enters (suc last) (now (near .entry)) (taken (placeAt (now (left .entry)) (now (right .entry)) (now (most .entry)) p) want .right) (taken (placeAt (now (left .entry)) (now (right .entry)) (now (most .entry)) p) want .left) (taken (placeAt (now (left .entry)) (now (right .entry)) (now (most .entry)) p) want .most) r (now (near .exit)) ⌝ }
+    requires { ⌜ Placed last (placeOf left right most) × Sized mostVertices (now near) × Tight (suc last) (now near) ⌝ }
+    ensures { λ r. ⌜ Enters (suc last) (now (near .entry)) (taken (placeOf left right most) want .right) (taken (placeOf left right most) want .left) (taken (placeOf left right most) want .most) r (now (near .exit)) ⌝ }
 {
-    let a = left[p] as usize;
-    let b = right[p] as usize;
-    let w = most[p];
     if want {
-        return enter(near, last, b, a, w);
+        return enter(near, last, right, left, most);
     }
-    enter(near, last, a, b, negation(w))
+    enter(near, last, left, right, negation(most))
 }

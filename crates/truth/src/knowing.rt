@@ -44,7 +44,7 @@ fn either(a: Truth, b: Truth) -> Truth
 }
 
 // Not.
-fn opposite(a: Truth) -> Truth
+pub fn opposite(a: Truth) -> Truth
     ensures { λ r. ⌜ threeOf r ≡ not3 (threeOf a) ⌝ }
 {
     match a {
@@ -55,7 +55,7 @@ fn opposite(a: Truth) -> Truth
 }
 
 // What an and (1) or an or (2) makes of the two top entries.
-fn joined(kind: u8, a: Truth, b: Truth) -> Truth
+pub fn joined(kind: u8, a: Truth, b: Truth) -> Truth
     ensures { λ r. ⌜ threeOf r ≡ joinedBy kind (threeOf a) (threeOf b) ⌝ }
 {
     if kind == 1 { both(a, b) } else { either(a, b) }

@@ -1,7 +1,7 @@
+use mathlib.Core.List.{[]}
 use native.Mathlib.Omega.{arith}
 use Prim.Native.Nat.{_-_, _≤_}
 use mathlib.Core.Path.{_≡_, refl, ap, _∙_}
-use mathlib.Core.List.{[]}
 use lib.ListN.{length, getD, replicate, length-replicate}
 use lib.IntN.{pos}
 use Rattle.page_walks.specs.Sizes.{filled}
@@ -10,9 +10,6 @@ use Rattle.page_walks.proofs.Rows.{filled-more, filled-at}
 use Rattle.tableau.specs.Begun.{spread}
 use Rattle.tableau.proofs.beginning.begin.Statement.{statement}
 use Rattle.tableau.proofs.beginning.begin.Tie as tie
-use Rattle.tableau.proofs.beginning.begin.Reads as reads
-use Rattle.tableau.proofs.beginning.begin.Lts as lts
-use Rattle.tableau.proofs.beginning.spread_row.Reads as spread-row-reads
 
 abbrev Inv-loop : tie.InvT-loop
 Inv-loop count flags lo hi near₀ u₀ near u = (u ≤ count) × (near ≡ filled (λ r. filled (spread flags lo hi r) count hi) u near₀)
@@ -46,27 +43,11 @@ loop-again c =
 
 returns : tie.Need-returns Inv-loop μ-loop
 returns c =
-    let s = c .before .before in
-    let a = s .args in
-    let l = c .before .loop in
-    let n : l .u ≡ a .count = omega (arith, c .loop-test .left, l .inv .0) in
-    let wide : length (a .hi) ≡ 17 = s .good .1 .1 .1 .0 .1 .0 .1 in
+    let s = c .before .before in let a = s .args in let l = c .before .loop in let n : l .u ≡ a .count = omega (arith, c .loop-test .left, l .inv .0) in let wide : length (a .hi) ≡ 17 = s .good .1 .1 .1 .0 .1 .0 .1 in
     λ u v hu hv.
     ap (λ g. getD (getD g u []) v far) (l .inv .1)
     ∙ ap (λ r. getD r v far) (filled-at _ (l .u) (replicate 17 (replicate 17 (pos 0))) u [] (omega (arith, n)) (omega (arith, n, s .pre .few, length-replicate 17 (replicate 17 (pos 0)))))
     ∙ filled-at (spread (a .flags) (a .lo) (a .hi) u) (a .count) (a .hi) v far hv (omega (arith, wide, s .pre .few))
 
 pub begin-spec : {M : Type 1} → statement M
-begin-spec =
-    tie.close
-    (tie.spec
-    Inv-loop
-    μ-loop
-    loop-holds
-    spread-row-requires
-    mul-near
-    array-set-from-near
-    add-u
-    loop-less
-    loop-again
-    returns)
+begin-spec = tie.close (tie.spec Inv-loop μ-loop loop-holds spread-row-requires mul-near array-set-from-near add-u loop-less loop-again returns)

@@ -4,8 +4,6 @@ use Rattle.tableau.proofs.Spreads.{end-zero, end-there, end-none}
 use borrow.Author.Needs.{needs}
 use Rattle.tableau.proofs.beginning.end_at.Statement.{statement}
 use Rattle.tableau.proofs.beginning.end_at.Tie as tie
-use Rattle.tableau.proofs.beginning.end_at.Reads as reads
-use Rattle.tableau.proofs.beginning.end_at.Lts as lts
 
 returns : tie.Need-returns
 returns c = end-zero (c .before .args .t1) (c .before .args .t2) (c .before .args .v) (c .if1 .taken)
@@ -30,6 +28,4 @@ returns-3 c =
     end-none (s .args .t1) (s .args .t2) (s .args .v) (c .before .if1 .left) (c .if2 .left)
 
 pub end-at-spec : {M : Type 1} → statement M
-end-at-spec =
-    tie.close
-    (tie.spec returns array-read-there mul-result array-copy-out-result returns-2 returns-3)
+end-at-spec = tie.close (tie.spec returns array-read-there mul-result array-copy-out-result returns-2 returns-3)

@@ -7,10 +7,6 @@ use Rattle.tableau.proofs.Spreads.{spread-fits, spread-same, spread-oth
 use borrow.Author.Needs.{needs}
 use Rattle.tableau.proofs.beginning.spread_at.Statement.{statement}
 use Rattle.tableau.proofs.beginning.spread_at.Tie as tie
-use Rattle.tableau.proofs.beginning.spread_at.Reads as reads
-use Rattle.tableau.proofs.beginning.spread_at.Lts as lts
-use Rattle.ints.proofs.weights.difference.Reads as difference-reads
-use Rattle.tableau.proofs.beginning.end_at.Reads as end-at-reads
 
 returns : tie.Need-returns
 returns c =
@@ -34,5 +30,4 @@ returns-2 c =
     toZ-ofZ {w = w64} (record { sfits = c .difference .ok }) ∙ c .difference .ensures ∙ ap₂ _-ℤ_ (toZ-ofZ {w = w64} (record { sfits = c .before .before .end-at .ok }) ∙ c .before .before .end-at .ensures) (toZ-ofZ {w = w64} (record { sfits = c .before .end-at2 .ok }) ∙ c .before .end-at2 .ensures) ∙ sym (spread-other (s .args .count) (s .args .flags) (s .args .lo) (s .args .hi) (s .pre .0) (s .args .u) (s .args .v) (c .before .before .before .if1 .left))
 
 pub spread-at-spec : {M : Type 1} → statement M
-spread-at-spec =
-    tie.close (tie.spec returns end-at-requires end-at-requires-2 difference-requires returns-2)
+spread-at-spec = tie.close (tie.spec returns end-at-requires end-at-requires-2 difference-requires returns-2)

@@ -8,9 +8,6 @@ use Rattle.page_walks.proofs.Rows.{filled-more}
 use Rattle.tableau.specs.Begun.{spread}
 use Rattle.tableau.proofs.beginning.spread_row.Statement.{statement}
 use Rattle.tableau.proofs.beginning.spread_row.Tie as tie
-use Rattle.tableau.proofs.beginning.spread_row.Reads as reads
-use Rattle.tableau.proofs.beginning.spread_row.Lts as lts
-use Rattle.tableau.proofs.beginning.spread_at.Reads as spread-at-reads
 
 abbrev Inv-loop : tie.InvT-loop
 Inv-loop count flags lo hi u row₀ v₀ row v = (v ≤ count) × (row ≡ filled (spread flags lo hi u) v row₀)
@@ -39,27 +36,13 @@ loop-less c = omega (arith, c .before .loop-test .taken, c .before .before .befo
 
 loop-again : tie.Need-loop-again Inv-loop μ-loop
 loop-again c =
-    let s = c .before .before .before in
-    let l = c .before .before .loop in
+    let s = c .before .before .before in let l = c .before .before .loop in
     (omega (arith, c .before .loop-test .taken), filled-more (spread (s .args .flags) (s .args .lo) (s .args .hi) (s .args .u)) (l .v) (s .args .hi) (l .row) _ (l .inv .1) (toZ-ofZ {w = w64} (record { sfits = c .spread-at .ok }) ∙ c .spread-at .ensures))
 
 returns : tie.Need-returns Inv-loop μ-loop
 returns c =
-    let s = c .before .before in
-    let l = c .before .loop in
+    let s = c .before .before in let l = c .before .loop in
     l .inv .1 ∙ ap (λ n. filled (spread (s .args .flags) (s .args .lo) (s .args .hi) (s .args .u)) n (s .args .hi)) (omega (arith, c .loop-test .left, l .inv .0))
 
 pub spread-row-spec : {M : Type 1} → statement M
-spread-row-spec =
-    tie.close
-    (tie.spec
-    Inv-loop
-    μ-loop
-    loop-holds
-    spread-at-requires
-    mul-row
-    array-set-from-row
-    add-v
-    loop-less
-    loop-again
-    returns)
+spread-row-spec = tie.close (tie.spec Inv-loop μ-loop loop-holds spread-at-requires mul-row array-set-from-row add-v loop-less loop-again returns)

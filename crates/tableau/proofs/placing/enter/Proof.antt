@@ -4,7 +4,7 @@ use native.Mathlib.Omega.{arith}
 use Prim.Native.Nat.{suc, _-_, _≤_, _<_}
 use mathlib.Core.Path.{_≡_, sym, ap, ap₂, _∙_, subst}
 use lib.ListN.{getD}
-use lib.IntN.{ℤ, pos, _+ℤ_}
+use lib.IntN.{pos, _+ℤ_}
 use denote.Ref.{now}
 use mir.Syntax.{w64}
 use mir.Val.{SFits, toZ, ofZ}
@@ -38,8 +38,7 @@ index-2-round c = omega (arith, c .pre .0, c .pre .1 .from-is, c .pre .1 .to-is)
 -- the numbers as the machine makes them
 round-is : (c : tie.After-round Inv-loop μ-loop) → toZ w64 (ofZ w64 (getD (row (now (c .before .args .near)) (c .before .args .to)) (c .before .args .from) (pos 0))) +ℤ toZ w64 (ofZ w64 (c .before .args .k)) ≡ weight (now (c .before .args .near)) (c .before .args .to) (c .before .args .from) +ℤ c .before .args .k
 round-is c =
-    let s = c .before in
-    let a = s .args in
+    let s = c .before in let a = s .args in
     ap₂ _+ℤ_ (toZ-ofZ {w = w64} (record { sfits = c .round .given }) ∙ read 17 (now (a .near)) (a .to) (a .from) (s .pre .2) (omega (arith, s .pre .0, s .pre .1 .to-is)) (omega (arith, s .pre .0, s .pre .1 .from-is))) (toZ-ofZ {w = w64} (s .fits .k))
 
 add-if1 : tie.Need-add-if1 Inv-loop μ-loop
@@ -77,21 +76,17 @@ index-2-reach c = omega (arith, c .loop-test .taken, c .before .before .before .
 -- the way to the new edge
 edge-is : (c : tie.After-reach Inv-loop μ-loop) → toZ w64 (ofZ w64 (getD (row (c .before .before .loop .near) (c .before .before .loop .u)) (c .before .before .before .before .before .before .args .from) (pos 0))) ≡ getD (row (now (c .before .before .before .before .before .before .args .near)) (c .before .before .loop .u)) (c .before .before .before .before .before .before .args .from) (pos 0)
 edge-is c =
-    let s = c .before .before .before .before .before .before in
-    let l = c .before .before .loop in
+    let s = c .before .before .before .before .before .before in let l = c .before .before .loop in
     toZ-ofZ {w = w64} (record { sfits = c .reach .given }) ∙ ap (λ w. getD w (s .args .from) (pos 0)) (l .inv .1 .rest (l .u) (omega arith))
 
 reach-is : (c : tie.After-reach Inv-loop μ-loop) → toZ w64 (ofZ w64 (getD (row (c .before .before .loop .near) (c .before .before .loop .u)) (c .before .before .before .before .before .before .args .from) (pos 0))) +ℤ toZ w64 (ofZ w64 (c .before .before .before .before .before .before .args .k)) ≡ weight (now (c .before .before .before .before .before .before .args .near)) (c .before .before .loop .u) (c .before .before .before .before .before .before .args .from) +ℤ c .before .before .before .before .before .before .args .k
 reach-is c =
-    let s = c .before .before .before .before .before .before in
-    let a = s .args in
-    let l = c .before .before .loop in
+    let s = c .before .before .before .before .before .before in let a = s .args in let l = c .before .before .loop in
     ap₂ _+ℤ_ (edge-is c ∙ read 17 (now (a .near)) (l .u) (a .from) (s .pre .2) (omega (arith, c .before .loop-test .taken, s .pre .0)) (omega (arith, s .pre .0, s .pre .1 .from-is))) (toZ-ofZ {w = w64} (s .fits .k))
 
 reach-fits : (c : tie.After-reach Inv-loop μ-loop) → SFits w64 (weight (now (c .before .before .before .before .before .before .args .near)) (c .before .before .loop .u) (c .before .before .before .before .before .before .args .from) +ℤ c .before .before .before .before .before .before .args .k)
 reach-fits c =
-    let s = c .before .before .before .before .before .before in
-    let a = s .args in
+    let s = c .before .before .before .before .before .before in let a = s .args in
     sum-fits (a .last) (now (a .near)) (s .pre .3) (a .from) (a .to) (a .k) (s .pre .1) (c .before .before .loop .u) (omega (arith, c .before .loop-test .taken))
 
 add-reach : tie.Need-add-reach Inv-loop μ-loop
@@ -111,9 +106,7 @@ index-2-there c = omega (arith, c .before .loop-test .taken, c .before .before .
 
 there-is : (c : tie.After-there Inv-loop μ-loop) → toZ w64 (ofZ w64 (getD (row (c .before .before .before .loop .near) (c .before .before .before .loop .u)) (c .before .before .before .before .before .before .before .args .to) (pos 0))) ≡ weight (now (c .before .before .before .before .before .before .before .args .near)) (c .before .before .before .loop .u) (c .before .before .before .before .before .before .before .args .to)
 there-is c =
-    let s = c .before .before .before .before .before .before .before in
-    let a = s .args in
-    let l = c .before .before .before .loop in
+    let s = c .before .before .before .before .before .before .before in let a = s .args in let l = c .before .before .before .loop in
     toZ-ofZ {w = w64} (record { sfits = c .there .given }) ∙ ap (λ w. getD w (a .to) (pos 0)) (l .inv .1 .rest (l .u) (omega arith)) ∙ read 17 (now (a .near)) (l .u) (a .to) (s .pre .2) (omega (arith, c .before .before .loop-test .taken, s .pre .0)) (omega (arith, s .pre .0, s .pre .1 .to-is))
 
 add-u : tie.Need-add-u Inv-loop μ-loop
@@ -124,11 +117,7 @@ loop-less c = omega (arith, c .before .before .before .loop-test .taken, c .befo
 
 loop-again : tie.Need-loop-again Inv-loop μ-loop
 loop-again c =
-    let i = c .before .before .before in
-    let s = i .before .before .before .before .before in
-    let a = s .args in
-    let l = i .before .loop in
-    let u : l .u < suc (a .last) = omega (arith, i .loop-test .taken) in
+    let i = c .before .before .before in let s = i .before .before .before .before .before in let a = s .args in let l = i .before .loop in let u : l .u < suc (a .last) = omega (arith, i .loop-test .taken) in
     (omega (arith, u), entering-stays (suc (a .last)) (now (a .near)) (s .pre .3) (omega (arith, s .pre .0)) (s .pre .2) (a .from) (a .to) _ (s .pre .1 .from-is) (s .pre .1 .to-is) (l .u) (l .near) u (l .inv .1) (tested _ _ _ _ (there-is (c .before)) (toZ-ofZ {w = w64} (add-reach (c .before .before)) ∙ reach-is (c .before .before) ∙ ap (λ z. weight (now (a .near)) (l .u) (a .from) +ℤ z) (sym (toZ-ofZ {w = w64} (s .fits .k)))) (c .if2 .taken)))
 
 mul-relax-row : tie.Need-mul-relax-row Inv-loop μ-loop
@@ -139,20 +128,12 @@ index-1-relax-row c = omega (arith, c .before .before .before .loop-test .taken,
 
 slice-aggregate-relax-row : tie.Need-slice-aggregate-relax-row Inv-loop μ-loop
 slice-aggregate-relax-row c =
-    let i = c .before .before .before .before .before in
-    let s = i .before .before .before .before .before in
-    let a = s .args in
-    let l = i .before .loop in
-    let u : l .u < suc (a .last) = omega (arith, i .loop-test .taken) in
+    let i = c .before .before .before .before .before in let s = i .before .before .before .before .before in let a = s .args in let l = i .before .loop in let u : l .u < suc (a .last) = omega (arith, i .loop-test .taken) in
     sym (s .pre .2 .columns (a .to) (omega (arith, s .pre .0, s .pre .1 .to-is)))
 
 relax-row-requires : tie.Need-relax-row-requires Inv-loop μ-loop
 relax-row-requires c κs =
-    let i = c .before .before .before .before .before in
-    let s = i .before .before .before .before .before in
-    let a = s .args in
-    let l = i .before .loop in
-    let u : l .u < suc (a .last) = omega (arith, i .loop-test .taken) in
+    let i = c .before .before .before .before .before in let s = i .before .before .before .before .before in let a = s .args in let l = i .before .loop in let u : l .u < suc (a .last) = omega (arith, i .loop-test .taken) in
     let wide-row = s .pre .2 .columns (a .to) (omega (arith, s .pre .0, s .pre .1 .to-is)) in
     let long = l .inv .1 .sized .columns (l .u) (omega (arith, u, s .pre .0)) in (
       (omega (arith, long, s .pre .0), omega (arith, wide-row, s .pre .0)),
@@ -170,12 +151,8 @@ loop-less-2 c = omega (arith, c .before .before .before .before .before .before 
 
 loop-again-2 : tie.Need-loop-again-2 Inv-loop μ-loop
 loop-again-2 c =
-    let i = c .before .before .before .before .before .before in
-    let s = i .before .before .before .before .before in
-    let a = s .args in
-    let l = i .before .loop in
-    let u : l .u < suc (a .last) = omega (arith, i .loop-test .taken) in
-    let same = l .inv .1 .rest (l .u) (omega arith) in
+    let i = c .before .before .before .before .before .before in let s = i .before .before .before .before .before in let a = s .args in let l = i .before .loop in
+    let u : l .u < suc (a .last) = omega (arith, i .loop-test .taken) in let same = l .inv .1 .rest (l .u) (omega arith) in
     let r = toZ-ofZ {w = w64} (add-reach (c .before .before .before .before .before)) ∙ ap₂ _+ℤ_ (edge-is (c .before .before .before .before .before)) (toZ-ofZ {w = w64} (s .fits .k)) in
     let new : c .relax-row .last .0 ≡ newRow (now (a .near)) (suc (a .last)) (a .from) (a .to) (a .k) (l .u) =
     row-read _ _ (row (now (a .near)) (a .to)) _ _ _ _ _ (c .relax-row .ensures) same r (add-one (a .last))
@@ -184,46 +161,9 @@ loop-again-2 c =
 
 returns-2 : tie.Need-returns-2 Inv-loop μ-loop
 returns-2 c =
-    let o = c .before .before in
-    let s = o .before .before .before in
-    let a = s .args in
-    let l = c .before .loop in
+    let o = c .before .before in let s = o .before .before .before in let a = s .args in let l = c .before .loop in
     entering-end (suc (a .last)) (now (a .near)) (s .pre .3) (omega (arith, s .pre .0)) (s .pre .2) (a .from) (a .to) (a .k) (s .pre .1 .from-is) (s .pre .1 .to-is) (l .u) (l .near) (omega (arith, c .loop-test .left)) (subst (λ z. Entering (suc (a .last)) (now (a .near)) (a .from) (a .to) z (l .u) (l .near)) (toZ-ofZ {w = w64} (s .fits .k)) (l .inv .1))
     (from-zero _ _ (toZ-ofZ {w = w64} (add-if1 (o .before .before)) ∙ round-is (o .before .before)) (o .before .if1 .left))
 
 pub enter-spec : {M : Type 1} → statement M
-enter-spec =
-    tie.close
-    (tie.spec
-    Inv-loop
-    μ-loop
-    mul-round
-    mul-round-2
-    index-1-round
-    index-2-round
-    add-if1
-    returns
-    mul-on
-    element-copy-out-on
-    add-n
-    loop-holds
-    mul-reach
-    mul-reach-2
-    index-1-reach
-    index-2-reach
-    add-reach
-    mul-there
-    mul-there-2
-    index-1-there
-    index-2-there
-    add-u
-    loop-less
-    loop-again
-    mul-relax-row
-    index-1-relax-row
-    slice-aggregate-relax-row
-    relax-row-requires
-    add-u-2
-    loop-less-2
-    loop-again-2
-    returns-2)
+enter-spec = tie.close (tie.spec Inv-loop μ-loop mul-round mul-round-2 index-1-round index-2-round add-if1 returns mul-on element-copy-out-on add-n loop-holds mul-reach mul-reach-2 index-1-reach index-2-reach add-reach mul-there mul-there-2 index-1-there index-2-there add-u loop-less loop-again mul-relax-row index-1-relax-row slice-aggregate-relax-row relax-row-requires add-u-2 loop-less-2 loop-again-2 returns-2)
