@@ -12,9 +12,8 @@ use lib.Signed.{_≤ℤ_, _<ℤ_}
 use Rattle.page_meaning.specs.Limits.{mostVertices}
 use Rattle.page_walks.specs.Grid.{Grid, row, weight}
 use Rattle.page_walks.specs.Sizes.{tabled, Sized}
-use Rattle.page_walks.specs.Near.{relax}
+use Rattle.page_walks.specs.Near.{relax, Least}
 use Rattle.page_walks.proofs.Rows.{read}
-use Rattle.page_walks.proofs.Nears.{least-of}
 use Rattle.page_formulas.specs.Formulas.{Formula}
 use Rattle.page_formulas.specs.Known.{Three, fails, passes, open?, known}
 use Rattle.page_formulas.specs.Kinds.{knownKinds, nowhere}
@@ -31,7 +30,7 @@ use Rattle.page_sheets.proofs.Fasts.{Same, same-trans, same-open}
 use Rattle.page_sheets.proofs.FastAmong.{SameBelow, fast-table}
 use Rattle.page_sheets.proofs.Steps.{fast-end}
 use Rattle.page_sheets.proofs.Descends.{Down, TrueIn, down-next, down-table, true-table, table-true, leaf-known, leaf-false, TrueShut, down-true, down-false}
-use Rattle.writer_trees.specs.Growing.{decisions, Ready, fastAt}
+use Rattle.writer_trees.specs.Growing.{decisions, Placing, fastAt}
 use Rattle.writer_trees.proofs.Halves.{known-lent, all-ends, closer-same}
 
 module _ (last : ℕ) (F : Formula) where
@@ -43,11 +42,11 @@ module _ (last : ℕ) (F : Formula) where
     pub leads : Same last F (openAt x) (fast last F (drop decided (places (F .program))) (decisions truths decided) facts (weight near))
 
   module _ (kinds left right : List ℕ) (most : List ℤ) (lent : Lent (F .program) kinds left right most) where
-    pub leading-start : (g near : Grid) → Ready last left right most g near → (truths : List ℕ) (facts : Grid) (x : Values) → Same last F (openAt x) (fastAt last F 0 truths facts near) → Leading x 0 truths near
-    leading-start g near ready truths facts x e = record {
+    pub leading-start : (near : Grid) → Placing last left right most → Least (suc last) (weight near) → (truths : List ℕ) (facts : Grid) (x : Values) → Same last F (openAt x) (fastAt last F 0 truths facts near) → Leading x 0 truths near
+    leading-start near placing least truths facts x e = record {
       done = [];
       facts = facts;
-      down = record { split-is = refl; as-many = refl; least = least-of (suc last) (weight g) (weight near) (ready .closed); agreeing = λ y s. none y (places (F .program)); ends = all-ends last F kinds left right most lent g near ready };
+      down = record { split-is = refl; as-many = refl; least = least; agreeing = λ y s. none y (places (F .program)); ends = all-ends last F kinds left right most lent placing };
       leads = e;
     }
       where
@@ -78,7 +77,7 @@ module _ (last : ℕ) (F : Formula) where
           go open? s = s
 
       -- ---- one step: the formula isn't known to be true, and a place is left
-      module _ (h : decided < length most) (unsure : knownKinds kinds ds ≢ passes) (long : decided < length truths) (g : Grid) (ready : Ready last left right most g near) where
+      module _ (h : decided < length most) (unsure : knownKinds kinds ds ≢ passes) (long : decided < length truths) (few : last < mostVertices) (table : Sized mostVertices near) where
         abbrev p : Place
         p = placeAt left right most decided
 
@@ -109,7 +108,7 @@ module _ (last : ℕ) (F : Formula) where
           beyond = fast last F todo (ds ++ d ∷ []) (decide (at .facts) p d) (after (weight near) (taken p d))
 
           pub same-beyond : SameBelow last F (after (weight near) (taken p d)) (weight closer)
-          same-beyond u v hu hv = closer-same last F kinds left right most lent truths g near decided (taken p d .right) (taken p d .left) (taken p d .most) ready u v hu hv ∙ ap (λ c. weight c u v) (sym closer-is)
+          same-beyond u v hu hv = closer-same last F kinds left right most lent truths (at .facts) near decided (taken p d .right) (taken p d .left) (taken p d .most) few table u v hu hv ∙ ap (λ c. weight c u v) (sym closer-is)
 
           onward : pos 0 ≤ℤ (weight near (taken p d .left) (taken p d .right) +ℤ taken p d .most) → Same last F (openAt x) beyond → Leading x n (set truths decided b) closer
           onward calm s =

@@ -87,12 +87,10 @@ module _ (last : ℕ) (left right : List ℕ) (most : List ℤ) (g near : Grid) 
     pub ready-next : pos 0 ≤ℤ (weight near to from +ℤ k) → Ready last left right most (tighten g from to k) (tabled (relax (weight near) from to k) (suc last) near)
     ready-next h =
         let g₂ = tighten g from to k in
-        let few : suc last ≤ 17 = omega (arith, ready .few) in
-        let t = tightened 17 g from to k (ready .kept .sized) (omega (arith, ready .few, fact .from-is)) (omega (arith, ready .few, fact .to-is)) in
+        let few : suc last ≤ 17 = omega (arith, ready .places .few) in
+        let t = tightened 17 g from to k (ready .kept .sized) (omega (arith, ready .places .few, fact .from-is)) (omega (arith, ready .places .few, fact .to-is)) in
         record {
-          few = ready .few;
-          as-long = ready .as-long;
-          facts = ready .facts;
+          places = ready .places;
           closed = tabled-closure (suc last) 17 (weight g₂) (relax (weight near) from to k) near few (ready .table) (relax-closure (suc last) (weight g) (weight near) (ready .closed) from to k (fact .from-is) (fact .to-is) (weight g₂) t h);
           kept = kept-next last from to k fact g (ready .kept);
           table = tabled-sized (relax (weight near) from to k) 17 (suc last) near few (ready .table);

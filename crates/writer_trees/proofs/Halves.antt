@@ -10,7 +10,7 @@ use lib.IntN.{ℤ, pos, _+ℤ_}
 use lib.Signed.{ltZ}
 use Rattle.page_meaning.specs.Limits.{mostVertices}
 use Rattle.page_walks.specs.Grid.{Grid, weight, tighten}
-use Rattle.page_walks.specs.Sizes.{tabled}
+use Rattle.page_walks.specs.Sizes.{tabled, Sized}
 use Rattle.page_walks.specs.Near.{relax}
 use Rattle.page_walks.specs.Search.{search}
 use Rattle.page_walks.proofs.Rows.{tabled-at}
@@ -26,7 +26,7 @@ use Rattle.page_sheets.specs.Fast.{calmNode, strainedNode, fast, sideOf, after}
 use Rattle.page_sheets.specs.Grow.{Growth, shut, openAt, join}
 use Rattle.page_sheets.specs.Tree.{bytesOf}
 use Rattle.room.specs.Room.{filling, putOne, puts}
-use Rattle.writer_trees.specs.Growing.{decisions, Grows, Ready, cutBytes, fastAt, sideBy}
+use Rattle.writer_trees.specs.Growing.{decisions, Grows, Placing, Ready, cutBytes, fastAt, sideBy}
 use Rattle.room.specs.declared.Spot.{Spot}
 use Rattle.page_questions.specs.Accepted.{Every}
 use Rattle.page_sheets.proofs.FastAmong.{SameBelow, Ends, fast-table}
@@ -47,8 +47,8 @@ all-drop P (suc n) (p ∷ ps) a = all-drop P n ps (a .1)
 
 module _ (last : ℕ) (F : Formula) (kinds left right : List ℕ) (most : List ℤ) (lent : Lent (F .program) kinds left right most) where
   -- the places are between vertices up to the last
-  pub all-ends : (g near : Grid) → Ready last left right most g near → Every (Ends last F) (places (F .program))
-  all-ends g near ready = all-of (Ends last F) (places (F .program)) nowhere (λ i l. let m : i < length most = omega (arith, lent-most (F .program) kinds left right most lent) in rw (← lent-place (F .program) kinds left right most lent i) (ready .facts i m true .to-is, ready .facts i m true .from-is))
+  pub all-ends : Placing last left right most → Every (Ends last F) (places (F .program))
+  all-ends placing = all-of (Ends last F) (places (F .program)) nowhere (λ i l. let m : i < length most = omega (arith, lent-most (F .program) kinds left right most lent) in rw (← lent-place (F .program) kinds left right most lent i) (placing .facts i m true .to-is, placing .facts i m true .from-is))
 
   pub known-lent : (ds : List Bool) (k : Three) → knownKinds kinds ds ≡ k → known (F .program) ds ≡ k
   known-lent ds k e = known-kinds (F .program) ds ∙ ap (λ x. knownKinds x ds) (sym (lent .kinds)) ∙ e
@@ -129,8 +129,8 @@ module _ (last : ℕ) (F : Formula) (kinds left right : List ℕ) (most : List �
   closer = tabled (relax (weight near) from to k) (suc last) near
 
   -- the table has its entries
-  pub closer-same : Ready last left right most g near → SameBelow last F (after (weight near) q) (weight closer)
-  closer-same ready u v hu hv = sym (tabled-at (relax (weight near) from to k) mostVertices (suc last) near (omega (arith, ready .few)) (ready .table) u v hu hv)
+  pub closer-same : last < mostVertices → Sized mostVertices near → SameBelow last F (after (weight near) q) (weight closer)
+  closer-same few table u v hu hv = sym (tabled-at (relax (weight near) from to k) mostVertices (suc last) near (omega arith) table u v hu hv)
 
   -- it does not
   pub side-calm : (x : ℤ) (facts₁ closer₁ : Grid) → x ≡ weight near to from +ℤ k → facts₁ ≡ facts → closer₁ ≡ closer → (old new : List ℕ) (s r : Spot) → ltZ x (pos 0) ≡ false → Ready last left right most g near → Grows old s (fastAt last F decided truths facts₁ closer₁) new r → Grows old s (sideBy last F decided truths g near from to k) new r
@@ -138,4 +138,4 @@ module _ (last : ℕ) (F : Formula) (kinds left right : List ℕ) (most : List �
       let todo = drop decided (places (F .program)) in
       let h₂ = subst (λ y. Grows old s (fastAt last F decided truths facts y) new r) j (subst (λ y. Grows old s (fastAt last F decided truths y closer₁) new r) i h) in
       rw (subst (λ y. ltZ y (pos 0) ≡ false) e t) (grows-same last F (fast last F todo so-far facts (after (weight near) q)) (fast last F todo so-far facts (weight closer))
-      (fast-table last F todo so-far facts (after (weight near) q) (weight closer) (closer-same ready) (all-drop (Ends last F) decided (places (F .program)) (all-ends last F kinds left right most lent g near ready))) old s new r h₂)
+      (fast-table last F todo so-far facts (after (weight near) q) (weight closer) (closer-same (ready .places .few) (ready .table)) (all-drop (Ends last F) decided (places (F .program)) (all-ends last F kinds left right most lent (ready .places)))) old s new r h₂)

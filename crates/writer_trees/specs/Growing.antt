@@ -5,6 +5,7 @@ use mathlib.Core.Bool.{Bool}
 use mathlib.Core.List.{List, [], map}
 use lib.ListN.{length, take, drop}
 use lib.IntN.{ℤ}
+use Rattle.page_meaning.specs.Limits.{mostVertices, mostDecisions}
 use Rattle.page_walks.specs.Grid.{Grid, weight, tighten}
 use Rattle.page_walks.specs.Sizes.{Sized}
 use Rattle.page_walks.specs.Near.{Closure}
@@ -48,11 +49,15 @@ sideBy last F decided truths g near from to k =
 
 -- ---- what the code must be given
 
--- places between vertices up to the last, with small constants; a grid of such facts and its closure
-pub record Ready (last : ℕ) (left right : List ℕ) (most : List ℤ) (g near : Grid) : Type 0 where
-  pub few : last < 17
-  pub as-long : (length left ≡ length most) × (length right ≡ length most) × (length most ≤ 120)
+-- places between vertices up to the last, with small constants
+pub record Placing (last : ℕ) (left right : List ℕ) (most : List ℤ) : Type 0 where
+  pub few : last < mostVertices
+  pub as-long : (length left ≡ length most) × (length right ≡ length most) × (length most ≤ mostDecisions)
   pub facts : (i : ℕ) → i < length most → (d : Bool) → Fact last (taken (placeAt left right most i) d .right) (taken (placeAt left right most i) d .left) (taken (placeAt left right most i) d .most)
+
+-- and a grid of such facts with its closure
+pub record Ready (last : ℕ) (left right : List ℕ) (most : List ℤ) (g near : Grid) : Type 0 where
+  pub places : Placing last left right most
   pub closed : Closure (suc last) (weight g) (weight near)
   pub kept : Kept g
-  pub table : Sized 17 near
+  pub table : Sized mostVertices near

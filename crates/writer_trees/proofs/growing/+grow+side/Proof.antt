@@ -122,7 +122,7 @@ grow-side-requires t c κs =
     let s = c .before .before .before .before .before .before .before .before .before .before .before .before .before .before .before .before .before in
     let a = s .args in
     let h : length (now (a .most)) - a .undecided < length (now (a .most)) = omega (arith, s .pre .1 .1, c .before .before .before .before .before .before .before .before .before .if1 .left) in
-    let f = s .pre .1 .2 .facts (length (now (a .most)) - a .undecided) h true in
+    let f = s .pre .1 .2 .places .facts (length (now (a .most)) - a .undecided) h true in
     (omega (arith, s .pre .0, c .before .before .before .before .before .before .before .before .before .if1 .left), (s .pre .1 .0, omega (arith, s .pre .1 .1), subst (λ z. Fact (a .last) (getD (now (a .right)) (length (now (a .most)) - a .undecided) 0) (getD (now (a .left)) (length (now (a .most)) - a .undecided) 0) z) (sym (toZ-ofZ {w = w64} (fact-fits (a .last) _ _ _ f))) f, s .pre .1 .2))
 
 grow-sub-side-2 : (t : ℕ) → grow-lts.Need-sub-side-2 (grow-calls t) (grow-at t) grow.Post
@@ -131,7 +131,7 @@ grow-sub-side-2 t c = search needs
 grow-with-truth-requires-2 : (t : ℕ) → grow-lts.Need-with-truth-requires-2 (grow-calls t) (grow-at t) grow.Post
 grow-with-truth-requires-2 t c κs =
     let s = c .before .before .before .before .before .before .before .before .before .before .before .before .before .before .before .before .before .before .before .before .before in
-    omega (arith, s .pre .1 .1, s .pre .1 .2 .as-long .2, c .before .before .before .before .before .before .before .before .before .before .before .before .before .if1 .left)
+    omega (arith, s .pre .1 .1, s .pre .1 .2 .places .as-long .2, c .before .before .before .before .before .before .before .before .before .before .before .before .before .if1 .left)
 
 grow-negation-requires : (t : ℕ) → grow-lts.Need-negation-requires (grow-calls t) (grow-at t) grow.Post
 grow-negation-requires t c κs = search needs
@@ -141,8 +141,8 @@ grow-side-requires-2 t c κs =
     let s = c .before .before .before .before .before .before .before .before .before .before .before .before .before .before .before .before .before .before .before .before .before .before .before in
     let a = s .args in
     let h : length (now (a .most)) - a .undecided < length (now (a .most)) = omega (arith, s .pre .1 .1, c .before .before .before .before .before .before .before .before .before .before .before .before .before .before .before .if1 .left) in
-    let w = fact-fits (a .last) _ _ _ (s .pre .1 .2 .facts (length (now (a .most)) - a .undecided) h true) in
-    (omega (arith, s .pre .0, c .before .before .before .before .before .before .before .before .before .before .before .before .before .before .before .if1 .left), (s .pre .1 .0, omega (arith, s .pre .1 .1), subst (λ z. Fact (a .last) (getD (now (a .left)) (length (now (a .most)) - a .undecided) 0) (getD (now (a .right)) (length (now (a .most)) - a .undecided) 0) z) (sym (toZ-ofZ {w = w64} (record { sfits = c .negation .ok }) ∙ c .negation .ensures ∙ ap (λ z. negℤ z -ℤ pos 1) (toZ-ofZ {w = w64} w))) (s .pre .1 .2 .facts (length (now (a .most)) - a .undecided) h false), s .pre .1 .2))
+    let w = fact-fits (a .last) _ _ _ (s .pre .1 .2 .places .facts (length (now (a .most)) - a .undecided) h true) in
+    (omega (arith, s .pre .0, c .before .before .before .before .before .before .before .before .before .before .before .before .before .before .before .if1 .left), (s .pre .1 .0, omega (arith, s .pre .1 .1), subst (λ z. Fact (a .last) (getD (now (a .left)) (length (now (a .most)) - a .undecided) 0) (getD (now (a .right)) (length (now (a .most)) - a .undecided) 0) z) (sym (toZ-ofZ {w = w64} (record { sfits = c .negation .ok }) ∙ c .negation .ensures ∙ ap (λ z. negℤ z -ℤ pos 1) (toZ-ofZ {w = w64} w))) (s .pre .1 .2 .places .facts (length (now (a .most)) - a .undecided) h false), s .pre .1 .2))
 
 grow-same-length : (t : ℕ) → grow-lts.Need-same-length (grow-calls t) (grow-at t) grow.Post
 grow-same-length t c = search needs
@@ -165,8 +165,8 @@ grow-returns-4 t c =
     let s = c .before .before .before .before .before .before .before .before .before .before .before .before .before .before .before .before .before .before .before .before .before .before .before .before .before .before in
     let a = s .args in
     let h : length (now (a .most)) - a .undecided < length (now (a .most)) = omega (arith, s .pre .1 .1, c .before .before .before .before .before .before .before .before .before .before .before .before .before .before .before .before .before .before .if1 .left) in
-    let w = fact-fits (a .last) _ _ _ (s .pre .1 .2 .facts (length (now (a .most)) - a .undecided) h true) in
-    let tr : length (now (a .most)) - a .undecided < length (a .truths) = omega (arith, s .pre .1 .2 .as-long .2, s .good .1 .1 .1 .1 .1 .1 .1 .1 .0 .1 .0 .1) in
+    let w = fact-fits (a .last) _ _ _ (s .pre .1 .2 .places .facts (length (now (a .most)) - a .undecided) h true) in
+    let tr : length (now (a .most)) - a .undecided < length (a .truths) = omega (arith, s .pre .1 .2 .places .as-long .2, s .good .1 .1 .1 .1 .1 .1 .1 .1 .0 .1 .0 .1) in
     λ F lent. branch-both (a .last) F (now (a .kinds)) (now (a .left)) (now (a .right)) (now (a .most)) lent (a .truths) (now (a .g)) (now (a .near)) (length (now (a .most)) - a .undecided) h (sym (c .before .before .before .before .before .before .before .before .before .before .before .before .before .before .before .before .before .before .before .before .before .known-so-far .ensures) ∙ ap threeOf (c .before .before .before .before .before .before .before .before .before .before .before .before .before .before .before .before .before .before .before .enum-told3 .given .1)) tr (length (now (a .most)) - (a .undecided - 1)) (omega (arith, s .pre .1 .1, c .before .before .before .before .before .before .before .before .before .before .before .before .before .before .before .before .before .before .if1 .left)) (now (a .room)) _ _ _ (a .spot) _ _ (c .before .before .side2 .result) (c .before .before .before .before .before .before .before .before .before .before .before .before .before .put2 .ensures) _ _ _ _ (c .before .before .before .before .before .before .before .before .before .with-truth .ensures) (toZ-ofZ {w = w64} w) (c .before .before .before .before .with-truth2 .ensures) (toZ-ofZ {w = w64} (record { sfits = c .before .before .before .negation .ok }) ∙ c .before .before .before .negation .ensures ∙ ap (λ z. negℤ z -ℤ pos 1) (toZ-ofZ {w = w64} w)) (c .before .before .before .before .before .before .before .before .side .ensures F lent) (c .before .before .side2 .ensures F lent)
 
 side-returns : (t : ℕ) → side-lts.Need-returns (side-calls t) (side-at t) side.Post
@@ -188,7 +188,7 @@ weight-fits t s = fact-fits (s .args .last) (s .args .e .from) (s .args .e .to) 
 side-edge-requires : (t : ℕ) → side-lts.Need-edge-requires (side-calls t) (side-at t) side.Post
 side-edge-requires t c κs =
     let s = c .before .before .before .before .before in
-    (omega (arith, s .pre .1 .2 .to-is, s .pre .1 .3 .few), omega (arith, s .pre .1 .2 .from-is, s .pre .1 .3 .few), s .pre .1 .3 .table)
+    (omega (arith, s .pre .1 .2 .to-is, s .pre .1 .3 .places .few), omega (arith, s .pre .1 .2 .from-is, s .pre .1 .3 .places .few), s .pre .1 .3 .table)
 
 side-add-if2 : (t : ℕ) → side-lts.Need-add-if2 (side-calls t) (side-at t) side.Post
 side-add-if2 t c =
@@ -207,7 +207,7 @@ side-sub-decided t c = search needs
 side-cut-requires : (t : ℕ) → side-lts.Need-cut-requires (side-calls t) (side-at t) side.Post
 side-cut-requires t c κs =
     let s = c .before .before .before .before .before .before .before .before .before .before in
-    (s .pre .1 .0, omega (arith, s .pre .1 .3 .as-long .2), s .pre .1 .3 .few, s .pre .1 .3 .kept, s .pre .1 .2)
+    (s .pre .1 .0, omega (arith, s .pre .1 .3 .places .as-long .2), s .pre .1 .3 .places .few, s .pre .1 .3 .kept, s .pre .1 .2)
 
 side-same-length : (t : ℕ) → side-lts.Need-same-length (side-calls t) (side-at t) side.Post
 side-same-length t c = search needs
@@ -227,7 +227,7 @@ side-relax-in-requires : (t : ℕ) → side-lts.Need-relax-in-requires (side-cal
 side-relax-in-requires t c κs =
     let s = c .before .before .before .before .before .before .before .before .before .before .before .before .before .before .before in
     let a = s .args in
-    ((omega (arith, s .pre .1 .3 .few), omega (arith, s .pre .1 .2 .from-is), omega (arith, s .pre .1 .2 .to-is), s .pre .1 .3 .table), (simp (toZ-ofZ, weight-fits t s) (fact-bounded (a .last) (a .e .from) (a .e .to) (a .e .weight) (s .pre .1 .2)), simp add-one (near-within (a .last) (now (a .left)) (now (a .right)) (now (a .most)) (now (a .g)) (now (a .near)) (s .pre .1 .3))))
+    ((omega (arith, s .pre .1 .3 .places .few), omega (arith, s .pre .1 .2 .from-is), omega (arith, s .pre .1 .2 .to-is), s .pre .1 .3 .table), (simp (toZ-ofZ, weight-fits t s) (fact-bounded (a .last) (a .e .from) (a .e .to) (a .e .weight) (s .pre .1 .2)), simp add-one (near-within (a .last) (now (a .left)) (now (a .right)) (now (a .most)) (now (a .g)) (now (a .near)) (s .pre .1 .3))))
 
 -- the facts that are handed on
 facts-are : (t : ℕ) (c : side-lts.After-tighten (side-calls t) (side-at t) side.Post) → let a = c .before .before .before .before .before .before .before .before .before .before .before .before .args in c .tighten .result ≡ tighten (now (a .g)) (a .e .from) (a .e .to) (a .e .weight)
