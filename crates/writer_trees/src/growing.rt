@@ -43,7 +43,7 @@ fn put_cycle(room: &mut [u8], spot: Spot, vertices: [u8; 17], count: usize) -> S
 }
 
 // What is known under the first of the truths.
-fn known_so_far(kinds: &[u8], truths: [u8; 120], decided: usize) -> Truth
+pub fn known_so_far(kinds: &[u8], truths: [u8; 120], decided: usize) -> Truth
     requires { ⌜ (length (now kinds) ≤ 320) × (decided ≤ 120) ⌝ }
     ensures { λ r. ⌜ threeOf r ≡ knownKinds (now (kinds .entry)) (decisions truths decided) ⌝ }
 {
