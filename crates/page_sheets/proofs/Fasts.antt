@@ -1,6 +1,6 @@
 -- The fast rule comes to the same tree, or the same values at the vertices, as the writer's rule.
 use Prim.Native.Nat.{ℕ, suc, _<_}
-use mathlib.Core.Path.{_≡_, refl, ap₂}
+use mathlib.Core.Path.{_≡_, refl, ap₂, _∙_}
 use mathlib.Core.Bool.{Bool, true, false, not, cond}
 use mathlib.Core.Option.{none, some}
 use mathlib.Core.List.{List, [], _∷_, _++_}
@@ -35,6 +35,19 @@ module _ (n : ℕ) (F : Formula) where
   Same (shut t) (openAt y) = ⊥
   Same (openAt x) (shut t′) = ⊥
   Same (openAt x) (openAt y) = (v : ℕ) → v < suc n → x v ≡ y v
+
+  pub same-trans : (a b c : Growth) → Same a b → Same b c → Same a c
+  same-trans (shut t) (shut u) (shut w) h k = h ∙ k
+  same-trans (shut t) (shut u) (openAt z) h k = absurd k
+  same-trans (shut t) (openAt y) c h k = absurd h
+  same-trans (openAt x) (shut u) c h k = absurd h
+  same-trans (openAt x) (openAt y) (shut w) h k = absurd k
+  same-trans (openAt x) (openAt y) (openAt z) h k = λ v l. h v l ∙ k v l
+
+  -- what is the same as an open leaf is one
+  pub same-open : (x : Values) (r : Growth) → Same (openAt x) r → (y : Values) × (r ≡ openAt y)
+  same-open x (shut t) h = absurd h
+  same-open x (openAt y) h = (y, refl)
 
   pub join-same : (t t′ f f′ : Growth) → Same t t′ → Same f f′ → Same (join t f) (join t′ f′)
   join-same (shut t) (shut t′) (shut f) (shut f′) h k = ap₂ split h k

@@ -10,6 +10,7 @@ pub mod NearStart
 pub mod Fasts
 pub mod Steps
 pub mod FastAmong
+pub mod Descends
 pub mod Values
 pub mod Inserted
 pub mod Agreed

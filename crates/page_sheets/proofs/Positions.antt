@@ -1,13 +1,13 @@
 -- The checker and the writer over a list of formulas, by a position as code keeps it.
 use Prim.Native.Nat.{ℕ, zero, suc, _+_, _-_, _≤_, _<_}
-use mathlib.Core.Path.{_≡_, refl, sym, ap, _∙_}
+use mathlib.Core.Path.{_≡_, refl, sym, ap, _∙_, subst}
 use mathlib.Core.List.{List, [], _∷_, _++_, append-assoc, append-nil}
 use native.Mathlib.Omega.{arith}
 use lib.ListN.{length, getD, drop, drop-of-length-le}
 use lib.Seq.{drop-cons}
 use Rattle.page_meaning.specs.Contents.{Values}
 use Rattle.page_formulas.specs.Formulas.{Formula}
-use Rattle.page_sheets.specs.Grow.{shut, openAt, growTree}
+use Rattle.page_sheets.specs.Grow.{Growth, shut, openAt, growTree}
 use Rattle.page_sheets.specs.Tree.{andThen, Tree, bytesOf, passed, checkTree}
 use Rattle.page_sheets.specs.Trees.{checkTrees, Finding, allShut, firstOpen, before, writeTrees, bytesAll}
 use Rattle.page_formulas.specs.Program as P
@@ -21,6 +21,14 @@ module _ (N : ℕ) (Fs : List Formula) (i : ℕ) where
   pub trees-end : length Fs ≤ i → (at : ℕ) (bs : List ℕ) → checkTrees N (drop i Fs) at bs ≡ passed at bs
   unfolding checkTrees
   trees-end h at bs = rw (drop-of-length-le Fs h)
+
+-- all shut, or one open
+shut-open : {ts : List Tree} {i : ℕ} {F : Formula} {x : P.Values} → allShut ts ≡ firstOpen i F x → ⊥
+shut-open {ts} {i} {F} {x} e = subst AllShut e tt
+  where
+    AllShut : Finding → Type 0
+    AllShut (allShut us) = Unit {0}
+    AllShut (firstOpen j G y) = ⊥
 
 -- the formulas before position i are shut with these trees
 abbrev pub ShutBefore : ℕ → List Formula → ℕ → List Tree → Type 0
@@ -76,7 +84,48 @@ module _ (n : ℕ) where
   unfolding writeTrees
   found-shut Fs ts h = let l : length Fs ≤ length Fs = omega arith in found-before Fs (length Fs) ts h ∙ rw (drop-of-length-le Fs l) (ap allShut (append-nil ts))
 
+  -- ---- the other way round: what was found, of each formula
+
+  pub open-there : (Fs : List Formula) (i : ℕ) (F : Formula) (x : P.Values) → writeTrees n Fs ≡ firstOpen i F x → (G : Formula) → (i < length Fs) × (getD Fs i G ≡ F) × (growTree n F ≡ openAt x)
+  unfolding writeTrees
+  open-there [] i F x e G = absurd (shut-open e)
+  open-there (E ∷ Fs) i F x e G = go (growTree n E) refl (writeTrees n Fs) refl e (λ j H y d. open-there Fs j H y d G)
+    where
+      Found : Type 0
+      Found = (i < suc (length Fs)) × (getD (E ∷ Fs) i G ≡ F) × (growTree n F ≡ openAt x)
+
+      here : (j : ℕ) (H : Formula) (y : P.Values) → firstOpen j H y ≡ firstOpen i F x → (j < suc (length Fs)) × (getD (E ∷ Fs) j G ≡ H) × (growTree n H ≡ openAt y) → Found
+      here j H y d r = let a : j ≡ i = cc in let b : H ≡ F = cc in let c : y ≡ x = cc in rw (← a, ← b, ← c) r
+
+      go : (r : Growth) → growTree n E ≡ r → (v : Finding) → writeTrees n Fs ≡ v → before E r v ≡ firstOpen i F x → ((j : ℕ) (H : Formula) (y : P.Values) → writeTrees n Fs ≡ firstOpen j H y → (j < length Fs) × (getD Fs j G ≡ H) × (growTree n H ≡ openAt y)) → Found
+      go (openAt y) g v f d ih = here 0 E y d (omega arith, refl, g)
+      go (shut t) g (allShut ts) f d ih = absurd (shut-open d)
+      go (shut t) g (firstOpen j H y) f d ih = let r = ih j H y f in here (suc j) H y d (omega (arith, r .0), r .1, r .2)
+
+  pub shut-there : (Fs : List Formula) (ts : List Tree) → writeTrees n Fs ≡ allShut ts → (i : ℕ) (G : Formula) → i < length Fs → (t : Tree) × (growTree n (getD Fs i G) ≡ shut t)
+  unfolding writeTrees
+  shut-there [] ts e i G h = absurd (omega arith)
+  shut-there (E ∷ Fs) ts e i G h = go (growTree n E) refl (writeTrees n Fs) refl e i h (λ us d j l. shut-there Fs us d j G l)
+    where
+      go : (r : Growth) → growTree n E ≡ r → (v : Finding) → writeTrees n Fs ≡ v → before E r v ≡ allShut ts → (i : ℕ) → i < suc (length Fs) → ((us : List Tree) → writeTrees n Fs ≡ allShut us → (j : ℕ) → j < length Fs → (t : Tree) × (growTree n (getD Fs j G) ≡ shut t)) → (t : Tree) × (growTree n (getD (E ∷ Fs) i G) ≡ shut t)
+      go (openAt y) g v f d i l ih = absurd (shut-open (sym d))
+      go (shut t) g (firstOpen j H y) f d i l ih = absurd (shut-open (sym d))
+      go (shut t) g (allShut us) f d zero l ih = (t, g)
+      go (shut t) g (allShut us) f d (suc i) l ih = ih us f i (omega arith)
+
+  -- the trees before position i are the first of all
+  pub first-trees : (Fs : List Formula) (ts : List Tree) → writeTrees n Fs ≡ allShut ts → (i : ℕ) (us : List Tree) → ShutBefore n Fs i us → (vs : List Tree) × (ts ≡ us ++ vs)
+  first-trees Fs ts e i us h = go (writeTrees n (drop i Fs)) (sym e ∙ found-before Fs i us h)
+    where
+      go : (v : Finding) → allShut ts ≡ precede us v → (vs : List Tree) × (ts ≡ us ++ vs)
+      go (allShut vs) d = (vs, cc)
+      go (firstOpen j G x) d = absurd (shut-open d)
+
+pub bytes-append : (ts us : List Tree) → bytesAll (ts ++ us) ≡ bytesAll ts ++ bytesAll us
+unfolding bytesAll
+bytes-append [] us = refl
+bytes-append (t ∷ ts) us = ap (λ l. bytesOf t ++ l) (bytes-append ts us) ∙ sym (append-assoc (bytesOf t) (bytesAll ts) (bytesAll us))
+
 pub bytes-more : (ts : List Tree) (t : Tree) → bytesAll (ts ++ t ∷ []) ≡ bytesAll ts ++ bytesOf t
 unfolding bytesAll
-bytes-more [] t = append-nil (bytesOf t)
-bytes-more (u ∷ ts) t = ap (λ l. bytesOf u ++ l) (bytes-more ts t) ∙ sym (append-assoc (bytesOf u) (bytesAll ts) (bytesOf t))
+bytes-more ts t = bytes-append ts (t ∷ []) ∙ ap (λ l. bytesAll ts ++ l) (append-nil (bytesOf t))

@@ -16,7 +16,7 @@ use Rattle.page_walks.specs.Walk.{from, Sat}
 use Rattle.page_walks.specs.Grid.{Grid, weight, tighten, blank, far, farN}
 use Rattle.page_walks.specs.Sizes.{Sized, tabled}
 use Rattle.page_walks.specs.Search.{NoNeg, search, Answer, dist}
-use Rattle.page_walks.specs.Near.{Weights, via, relax, nearBlank, Tightened, Walked, Reached, Closure}
+use Rattle.page_walks.specs.Near.{Weights, via, relax, nearBlank, Tightened, Walked, Reached, Least, Closure}
 use Rattle.page_walks.proofs.Pigeon.{below-append}
 use Rattle.page_walks.proofs.Walks.{from-append, sat-from, sound}
 use Rattle.page_walks.proofs.Searches.{search-is, dist-greatest}
@@ -55,8 +55,21 @@ module _ (N : ℕ) where
     reached = λ u v hu hv. rw (e u v hu hv) (c .reached u v hu hv);
   }
 
-  -- ---- a new fact that closes no negative cycle keeps the closure
-  module _ (w near : Weights) (c : Closure N w near) (b a : ℕ) (k : ℤ) (hb : b < N) (ha : a < N) (w′ : Weights) (t : Tightened w b a k w′) where
+  pub least-of : (w near : Weights) → Closure N w near → Least N near
+  least-of w near c = record { itself = c .itself; triangle = c .triangle }
+
+  -- its row of vertex 0 meets it
+  pub least-sat : (near : Weights) → Least N near → 0 < N → Sat near N (near 0)
+  unfolding Sat
+  least-sat near c z u v hu hv = c .triangle 0 u v z hu hv
+
+  -- where all values that meet the one meet the other, its sums are no greater
+  pub least-less : (near other : Weights) → Least N near → ((x : ℕ → ℤ) → Sat near N x → Sat other N x) → (u v : ℕ) → u < N → v < N → near u v ≤ℤ other u v
+  unfolding Sat
+  least-less near other c h u v hu hv = omega (ints, h (near u) (λ a b ha hb. c .triangle u a b hu ha hb) u v hu hv, c .itself u hu, +law (near u u) (other u v))
+
+  -- ---- a new fact that closes no negative cycle keeps least sums
+  module _ (near : Weights) (c : Least N near) (b a : ℕ) (k : ℤ) (hb : b < N) (ha : a < N) where
     via-law : (u v : ℕ) → up (via near b a k u v) + (dn (near u b) + dn k + dn (near a v)) ≡ dn (via near b a k u v) + (up (near u b) + up k + up (near a v))
     via-law u v = omega (arith, +law (near u b) k, +law (near u b +ℤ k) (near a v))
 
@@ -83,9 +96,6 @@ module _ (N : ℕ) where
         go (inl e) = e ∙ c .itself u hu
         go (inr e) = omega (ints, old u u, c .itself u hu, e, via-law u u, round h u hu)
 
-    relax-edge : (u v : ℕ) → u < N → v < N → relax near b a k u v ≤ℤ w′ u v
-    relax-edge u v hu hv = t .only (relax near b a k u v) u v (omega (ints, old u v, c .edge u v hu hv)) (λ d e. rw (d, e) (omega (ints, new b a, via-law b a, c .itself b hb, c .itself a ha)))
-
     relax-triangle : pos 0 ≤ℤ (near a b +ℤ k) → (u v x : ℕ) → u < N → v < N → x < N → relax near b a k u x ≤ℤ (relax near b a k u v +ℤ relax near b a k v x)
     relax-triangle h u v x hu hv hx = go (which u v) (which v x)
       where
@@ -95,8 +105,46 @@ module _ (N : ℕ) where
         go (inr d) (inl e) = rw (d, e) (omega (ints, new u x, via-law u x, via-law u v, c .triangle a v x ha hv hx, +law (near a v) (near v x), +law (via near b a k u v) (near v x)))
         go (inr d) (inr e) = rw (d, e) (omega (ints, new u x, via-law u x, via-law u v, via-law v x, round h v hv, +law (via near b a k u v) (via near b a k v x)))
 
+    pub relax-least : pos 0 ≤ℤ (near a b +ℤ k) → Least N (relax near b a k)
+    relax-least h = record { itself = relax-itself h; triangle = relax-triangle h }
+
+    -- the new edge is in
+    relax-new : relax near b a k b a ≤ℤ k
+    relax-new = omega (ints, new b a, via-law b a, c .itself b hb, c .itself a ha)
+
+    -- values that meet the new sums are those that meet the old ones and the fact
+    module _ (x : ℕ → ℤ) where
+      pub relaxed-old : Sat (relax near b a k) N x → Sat near N x
+      unfolding Sat
+      relaxed-old s u v hu hv = omega (ints, s u v hu hv, old u v, +law (x u) (relax near b a k u v), +law (x u) (near u v))
+
+      pub relaxed-fact : Sat (relax near b a k) N x → x a ≤ℤ (x b +ℤ k)
+      unfolding Sat
+      relaxed-fact s = omega (ints, s b a hb ha, relax-new, +law (x b) (relax near b a k b a), +law (x b) k)
+
+      pub relaxed-both : Sat near N x → x a ≤ℤ (x b +ℤ k) → Sat (relax near b a k) N x
+      unfolding Sat
+      relaxed-both s f u v hu hv = go (which u v)
+        where
+          go : (relax near b a k u v ≡ near u v) ⊎ (relax near b a k u v ≡ via near b a k u v) → x v ≤ℤ (x u +ℤ relax near b a k u v)
+          go (inl e) = rw e (s u v hu hv)
+          go (inr e) = rw e (omega (ints, s u b hu hb, s a v ha hv, f, via-law u v, +law (x u) (near u b), +law (x a) (near a v), +law (x b) k, +law (x u) (via near b a k u v)))
+
+      -- so they can be met only if the cycle isn't negative
+      pub fact-round : Sat near N x → x a ≤ℤ (x b +ℤ k) → pos 0 ≤ℤ (near a b +ℤ k)
+      unfolding Sat
+      fact-round s f = omega (ints, s a b ha hb, f, +law (x a) (near a b), +law (x b) k, +law (near a b) k)
+
+  -- ---- and keeps the closure
+  module _ (w near : Weights) (c : Closure N w near) (b a : ℕ) (k : ℤ) (hb : b < N) (ha : a < N) (w′ : Weights) (t : Tightened w b a k w′) where
+    least : Least N near
+    least = least-of w near c
+
+    relax-edge : (u v : ℕ) → u < N → v < N → relax near b a k u v ≤ℤ w′ u v
+    relax-edge u v hu hv = t .only (relax near b a k u v) u v (omega (ints, old near least b a k hb ha u v, c .edge u v hu hv)) (λ d e. rw (d, e) (relax-new near least b a k hb ha))
+
     relax-reached : (u v : ℕ) → u < N → v < N → Reached N w′ u v (relax near b a k u v)
-    relax-reached u v hu hv = go (which u v)
+    relax-reached u v hu hv = go (which near least b a k hb ha u v)
       where
         stay : (x y : ℕ) → x < N → y < N → Reached N w′ x y (near x y)
         stay x y hx hy = reached-less w w′ (t .less) x y (near x y) (c .reached x y hx hy)
@@ -106,7 +154,7 @@ module _ (N : ℕ) where
         go (inr e) = rw e (inr (then-walk w′ u a v (near u b +ℤ k) (near a v) ha (then-edge w′ u b a (near u b) k hb (t .new) (stay u b hu hb)) (stay a v ha hv)))
 
     pub relax-closure : pos 0 ≤ℤ (near a b +ℤ k) → Closure N w′ (relax near b a k)
-    relax-closure h = record { itself = relax-itself h; edge = relax-edge; triangle = relax-triangle h; reached = relax-reached }
+    relax-closure h = let l = relax-least near least b a k hb ha h in record { itself = l .itself; edge = relax-edge; triangle = l .triangle; reached = relax-reached }
 
     -- the facts can be met only if the cycle isn't negative
     pub sat-round : (x : ℕ → ℤ) → Sat w N x → x a ≤ℤ (x b +ℤ k) → pos 0 ≤ℤ (near a b +ℤ k)

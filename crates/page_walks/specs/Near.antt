@@ -46,6 +46,11 @@ module _ (N : ℕ) where
   abbrev pub Reached : Weights → ℕ → ℕ → ℤ → Type 0
   Reached w u v z = ((u ≡ v) × (pos 0 ≤ℤ z)) ⊎ Walked w u v z
 
+  -- least sums by themselves: 0 from each vertex to itself, and no way round is less
+  pub record Least (near : Weights) : Type 0 where
+    pub itself : (u : ℕ) → u < N → near u u ≡ pos 0
+    pub triangle : (u v x : ℕ) → u < N → v < N → x < N → near u x ≤ℤ (near u v +ℤ near v x)
+
   -- near holds the least sums of the walks between vertices below N
   pub record Closure (w near : Weights) : Type 0 where
     pub itself : (u : ℕ) → u < N → near u u ≡ pos 0

@@ -1,60 +1,99 @@
--- The loop over the formulas: those before the next are shut, and their trees stand in the room.
+-- The loops over the formulas: the search for the first that is open, and all trees one after another.
 use Prim.Native.Nat.{ℕ, _+_, _<_}
 use mathlib.Core.Path.{_≡_, refl, sym, ap, _∙_, subst}
-use mathlib.Core.Bool.{true, false, true≢false}
+use mathlib.Core.Bool.{Bool, true, false}
 use mathlib.Core.List.{List, [], _∷_, _++_}
 use native.Mathlib.Numerals.{add-one}
-use lib.ListN.{length, getD}
-use lib.IntN.{pos}
-use Rattle.page_formulas.specs.Formulas.{Formula, noFormula}
+use lib.ListN.{length}
+use lib.IntN.{ℤ}
+use Rattle.page_questions.specs.Accepted.{Accepted}
+use Rattle.page_meaning.specs.Contents.{Question}
+use Rattle.page_formulas.specs.Formulas.{Formula, noFormula, formulas}
+use Rattle.page_formulas.specs.Proper.{Proper}
+use Rattle.page_formulas.proofs.Proper.{formulas-proper}
 use Rattle.formula.specs.Able.{formulaAt}
-use Rattle.page_sheets.specs.Grow.{Growth, shut, openAt, growTree}
-use Rattle.page_sheets.specs.Sheet.{lastVertex}
+use Rattle.page_sheets.specs.Grow.{shut, growTree}
+use Rattle.page_sheets.specs.Sheet.{lastVertex, findingOf}
 use Rattle.page_sheets.specs.Tree.{Tree, bytesOf}
-use Rattle.page_sheets.specs.Trees.{writeTrees, bytesAll}
-use Rattle.page_sheets.proofs.Positions.{ShutBefore, shut-more, found-open, found-shut, bytes-more}
-use Rattle.writer_trees.specs.Growing.{Grows}
-use Rattle.writer.specs.Finding.{Finds}
+use Rattle.page_sheets.specs.Trees.{allShut, writeTrees, bytesAll}
+use Rattle.page_sheets.proofs.Findings.{all-at}
+use Rattle.page_sheets.proofs.Fit.{fit}
+use Rattle.page_sheets.proofs.Grows.{fails-shut, holds-open}
+use Rattle.page_sheets.proofs.Positions.{ShutBefore, shut-more, found-open, found-shut, shut-there, first-trees, bytes-append, bytes-more}
 use Rattle.room.specs.Room.{filling, puts}
 use Rattle.room.specs.declared.Spot.{Spot}
-use Rattle.writer_trees.specs.declared.growing.Grown.{Grown}
+use Rattle.room.proofs.Puts.{puts-append, puts-over}
+use Rattle.tableau.specs.Goals.{held, Opens, TrueAt}
+use Rattle.tableau.proofs.Judges.{never}
+use Rattle.writer_trees.specs.Growing.{Grows}
+use Rattle.writer.specs.Finding.{Finds}
 use Rattle.writer.specs.declared.finding.Found.{Found}
-use Rattle.room.proofs.Puts.{puts-append, puts-length}
 
-module _ (Fs : List Formula) (old : List ℕ) (s : Spot) where
-  -- before formula i
-  pub record Sown (i : ℕ) (room : List ℕ) (next : Spot) : Type 0 where
-    pub trees : List Tree
-    pub shut-are : ShutBefore lastVertex Fs i trees
-    pub stand : filling room next ≡ puts (filling old s) (bytesAll trees)
+module _ (q : Question) (ok : Accepted q) (a : ℕ) where
+  abbrev Fs : List Formula
+  Fs = formulas q a
 
-  pub sown-start : Sown 0 old s
-  unfolding puts bytesAll
-  sown-start = record { trees = []; shut-are = tt; stand = refl }
+  pub proper-at : (i : ℕ) → i < length Fs → Proper (formulaAt Fs i)
+  proper-at i h = all-at Proper Fs (formulas-proper q ok a) i noFormula h
 
-  pub sown-length : (i : ℕ) (room : List ℕ) (next : Spot) → Sown i room next → length room ≡ length old
-  sown-length i room next w = ap (λ f. length (f .bytes)) (w .stand) ∙ puts-length (filling old s) (bytesAll (w .trees))
+  -- ---- the search: those before formula i are shut
+  abbrev pub Passed : ℕ → Type 0
+  Passed i = (us : List Tree) × ShutBefore lastVertex Fs i us
 
-  module _ (i : ℕ) (room : List ℕ) (next : Spot) (w : Sown i room next) (h : i < length Fs) (last : ℕ) (new : List ℕ) (r : Grown) where
-    -- one formula more is shut
-    pub sown-more : r .open ≡ false → Grows last room next (growTree lastVertex (formulaAt Fs i)) new r → Sown (i + 1) new (r .spot)
-    sown-more o g = go (growTree lastVertex (formulaAt Fs i)) refl g
-      where
-        go : (x : Growth) → growTree lastVertex (formulaAt Fs i) ≡ x → Grows last room next x new r → Sown (i + 1) new (r .spot)
-        go (openAt y) e k = absurd (true≢false (sym (k .0) ∙ o))
-        go (shut t) e k = record {
-          trees = w .trees ++ t ∷ [];
-          shut-are = subst (λ n. ShutBefore lastVertex Fs n (w .trees ++ t ∷ [])) (sym (add-one i)) (shut-more lastVertex Fs i (w .trees) noFormula t (w .shut-are) h e);
-          stand = k .1 ∙ ap (λ f. puts f (bytesOf t)) (w .stand) ∙ sym (puts-append (filling old s) (bytesAll (w .trees)) (bytesOf t)) ∙ ap (puts (filling old s)) (sym (bytes-more (w .trees) t));
-        }
+  module _ (i : ℕ) (w : Passed i) (h : i < length Fs) (answer : Bool) (l : List ℤ) (o : Opens answer l (TrueAt (formulaAt Fs i))) where
+    pub passed-more : answer ≡ false → Passed (i + 1)
+    passed-more e =
+        let s = fails-shut lastVertex (formulaAt Fs i) (fit (formulaAt Fs i) (proper-at i h)) (never (formulaAt Fs i) answer l e o) in
+        (w .0 ++ s .0 ∷ [], subst (λ n. ShutBefore lastVertex Fs n (w .0 ++ s .0 ∷ [])) (sym (add-one i)) (shut-more lastVertex Fs i (w .0) noFormula (s .0) (w .1) h (s .1)))
 
-    -- it is open
-    pub found-first : (f : Found) → r .open ≡ true → Grows (length (formulaAt Fs i .ranges)) room next (growTree lastVertex (formulaAt Fs i)) new r → f .open ≡ true → f .number ≡ i → f .pairs ≡ formulaAt Fs i .pairs → f .values ≡ r .values → Finds old s (writeTrees lastVertex Fs) new f
-    found-first f o g fo fn fp fv = go (growTree lastVertex (formulaAt Fs i)) refl g
-      where
-        go : (x : Growth) → growTree lastVertex (formulaAt Fs i) ≡ x → Grows (length (formulaAt Fs i .ranges)) room next x new r → Finds old s (writeTrees lastVertex Fs) new f
-        go (shut t) e k = absurd (true≢false (sym o ∙ k .0))
-        go (openAt y) e k = rw (found-open lastVertex Fs i (w .trees) noFormula y (w .shut-are) h e) (fo, k .1 ∙ sown-length i room next w, fn, fp, λ v l. ap (λ z. getD z v (pos 0)) fv ∙ k .2 v l)
+    pub found-first : answer ≡ true → (r : Found) → r .open ≡ true → r .number ≡ i → Finds (findingOf q a) r
+    unfolding findingOf
+    found-first e r ro rn =
+        let t = subst (λ b. Opens b l (TrueAt (formulaAt Fs i))) e o in
+        let x = holds-open lastVertex (formulaAt Fs i) (fit (formulaAt Fs i) (proper-at i h)) (held l) (t .0) (t .1) in
+        rw (found-open lastVertex Fs i (w .0) noFormula (x .0) (w .1) h (x .1)) (ro, rn)
 
-  pub found-none : (i : ℕ) (room : List ℕ) (next : Spot) → Sown i room next → i ≡ length Fs → (f : Found) → f .open ≡ false → f .spot ≡ next → Finds old s (writeTrees lastVertex Fs) room f
-  found-none i room next w e f fo fs = rw (found-shut lastVertex Fs (w .trees) (subst (λ n. ShutBefore lastVertex Fs n (w .trees)) e (w .shut-are))) (fo, ap (filling room) fs ∙ w .stand)
+  pub found-none : (i : ℕ) → Passed i → i ≡ length Fs → (r : Found) → r .open ≡ false → Finds (findingOf q a) r
+  unfolding findingOf
+  found-none i w e r ro = rw (found-shut lastVertex Fs (w .0) (subst (λ n. ShutBefore lastVertex Fs n (w .0)) e (w .1))) ro
+
+  -- ---- the trees: those of the formulas before i stand in the room
+  module _ (old : List ℕ) (s : Spot) where
+    pub record Sown (i : ℕ) (room : List ℕ) (next : Spot) : Type 0 where
+      pub trees : List Tree
+      pub shut-are : ShutBefore lastVertex Fs i trees
+      pub stand : filling room next ≡ puts (filling old s) (bytesAll trees)
+
+    pub sown-start : Sown 0 old s
+    unfolding puts bytesAll
+    sown-start = record { trees = []; shut-are = tt; stand = refl }
+
+    module _ (i : ℕ) (room : List ℕ) (next : Spot) (w : Sown i room next) (ts : List Tree) (all : findingOf q a ≡ allShut ts) where
+      written : writeTrees lastVertex Fs ≡ allShut ts
+      unfolding findingOf
+      written = all
+
+      -- one tree more
+      pub sown-more : i < length Fs → (new : List ℕ) (r : Spot) → Grows room next (growTree lastVertex (formulaAt Fs i)) new r → Sown (i + 1) new r
+      sown-more h new r g =
+          let t = shut-there lastVertex Fs ts written i noFormula h in
+          let e : filling new r ≡ puts (filling room next) (bytesOf (t .0)) = rw (t .1) at g in
+          record {
+            trees = w .trees ++ t .0 ∷ [];
+            shut-are = subst (λ n. ShutBefore lastVertex Fs n (w .trees ++ t .0 ∷ [])) (sym (add-one i)) (shut-more lastVertex Fs i (w .trees) noFormula (t .0) (w .shut-are) h (t .1));
+            stand = e ∙ ap (λ f. puts f (bytesOf (t .0))) (w .stand) ∙ sym (puts-append (filling old s) (bytesAll (w .trees)) (bytesOf (t .0))) ∙ ap (puts (filling old s)) (sym (bytes-more (w .trees) (t .0)));
+          }
+
+      -- past the room's end the rest changes nothing
+      pub sown-over : next .over ≡ true → filling room next ≡ puts (filling old s) (bytesAll ts)
+      sown-over o =
+          let v = first-trees lastVertex Fs ts written i (w .trees) (w .shut-are) in
+          let e : puts (filling old s) (bytesAll (w .trees ++ v .0)) ≡ puts (filling room next) (bytesAll (v .0)) = ap (puts (filling old s)) (bytes-append (w .trees) (v .0)) ∙ puts-append (filling old s) (bytesAll (w .trees)) (bytesAll (v .0)) ∙ ap (λ f. puts f (bytesAll (v .0))) (sym (w .stand)) in
+          sym (ap (λ us. puts (filling old s) (bytesAll us)) (v .1) ∙ e ∙ puts-over (filling room next) (bytesAll (v .0)) o)
+
+      -- all of them
+      pub sown-end : i ≡ length Fs → filling room next ≡ puts (filling old s) (bytesAll ts)
+      sown-end e =
+          let f : allShut (w .trees) ≡ allShut ts = sym (found-shut lastVertex Fs (w .trees) (subst (λ n. ShutBefore lastVertex Fs n (w .trees)) e (w .shut-are))) ∙ written in
+          let g : w .trees ≡ ts = cc in
+          w .stand ∙ ap (λ us. puts (filling old s) (bytesAll us)) g

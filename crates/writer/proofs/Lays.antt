@@ -2,7 +2,7 @@
 use Prim.Native.Nat.{ℕ, _≤_, _<_}
 use mathlib.Core.Path.{_≡_, refl, sym, ap, subst, _∙_}
 use mathlib.Core.Bool.{Bool, true, false, cond, true≢false}
-use mathlib.Core.List.{List, [], _∷_}
+use mathlib.Core.List.{List, [], _∷_, _++_}
 use native.Mathlib.Omega.{arith}
 use native.Mathlib.Decide.{decLe}
 use lib.Dec.{eqb}
@@ -13,21 +13,29 @@ use Rattle.page_meaning.specs.Limits.{mostRows}
 use Rattle.page_questions.specs.Accepted.{Accepted, ChangeAccepted}
 use Rattle.page_formulas.specs.Formulas.{Formula, inserted, unlessAlone, irrelevance, computability, formulas, noFormula}
 use Rattle.page_formulas.specs.Program.{Values}
+use Rattle.page_formulas.specs.Proper.{Proper}
 use Rattle.page_formulas.proofs.Proper.{formulas-proper}
+use Rattle.program.specs.Compiled.{Compiled}
+use Rattle.program.specs.declared.types.Formula as compiled
+use Rattle.formula.specs.Able.{formulaAt}
+use Rattle.page_sheets.specs.Grow.{openAt, growTree}
 use Rattle.page_sheets.specs.Rows.{fields, noBytes}
-use Rattle.page_sheets.specs.Sheet.{lastVertex, header, sayYes, sayNo, sheetFor, findingOf}
+use Rattle.page_sheets.specs.Sheet.{lastVertex, header, sayYes, sayNo, sheetFor, verdictFor, findingOf, sheetOf}
+use Rattle.page_sheets.specs.Tree.{Tree}
 use Rattle.page_sheets.specs.Trees.{Finding, allShut, firstOpen, bytesAll}
-use Rattle.outcome.specs.declared.Verdict.the-variants.{Yes, No}
-use Rattle.page_sheets.proofs.Findings.{no-found, opens-at}
-use Rattle.page_sheets.proofs.Fit.{fit-all}
-use Rattle.writer.specs.Finding.{Finds}
+use Rattle.page_sheets.proofs.Findings.{all-at}
+use Rattle.page_sheets.proofs.Positions.{open-there}
+use Rattle.outcome.specs.Told.{verdictOf}
+use Rattle.outcome.specs.declared.Verdict.{Verdict}
 use Rattle.room.specs.Room.{filling, puts}
-use Rattle.writer_rows.specs.Showing.{Alike}
 use Rattle.room.specs.declared.Spot.{Spot}
-use Rattle.writer.specs.declared.finding.Found.{Found}
 use Rattle.room.proofs.Puts.{Stand, puts-append, puts-length, puts-fit, puts-past}
+use Rattle.writer_rows.specs.Showing.{Alike}
 use Rattle.writer_rows.proofs.ShownFormulas.{fields-span}
-use Rattle.writer.specs.Laying.{atStart, StandsIf, Lays}
+use Rattle.writer_trees.specs.Descending.{FineOpen, Leaf}
+use Rattle.writer.specs.Finding.{Finds}
+use Rattle.writer.specs.Laying.{atStart, AllShut, OpenFirst, StandsIf, Lays}
+use Rattle.writer.specs.declared.finding.Found.{Found}
 
 -- ---- bytes put from the start
 module _ (mid sheet new : List ℕ) (s : Spot) (e : filling new s ≡ puts (filling mid atStart) sheet) where
@@ -59,50 +67,68 @@ module _ (q : Question) where
   few (modify d ms) h false = omega arith
 
 module _ (q : Question) (ok : Accepted q) (a : ℕ) where
-  open-there : (i : ℕ) (F : Formula) (x : Values) → findingOf q a ≡ firstOpen i F x → (i < length (formulas q a)) × (getD (formulas q a) i noFormula ≡ F)
-  unfolding findingOf
-  open-there i F x e =
-      let o = opens-at (formulas q a) i F x (no-found lastVertex (formulas q a) (fit-all (formulas q a) (formulas-proper q ok a)) i F x e) noFormula in
-      (o .0, o .1)
+  -- ---- the first open formula
+  module _ (i : ℕ) (o : OpenFirst q a i) where
+    there : (i < length (formulas q a)) × (getD (formulas q a) i noFormula ≡ o .formula) × (growTree lastVertex (o .formula) ≡ openAt (o .values))
+    unfolding findingOf
+    there = open-there lastVertex (formulas q a) i (o .formula) (o .values) (o .finding) noFormula
 
-  -- the vertices' values are those of the rows' fields
-  alike : (i : ℕ) (F : Formula) (x : Values) (values : M.Values) → findingOf q a ≡ firstOpen i F x → Alike (length (F .ranges)) values x → Alike (fields q F) values x
-  alike i F x values e h =
-      let o = open-there i F x e in
-      let span : length (F .ranges) ≡ fields q F = rw (o .1) at (fields-span q a i noFormula (o .0)) in
-      subst (λ n. Alike n values x) span h
+    pub number-there : i < length (formulas q a)
+    number-there = there .0
 
-  -- ---- what the search through the formulas left
-  module _ (mid : List ℕ) (s : Spot) (new : List ℕ) (r : Found) (h : Finds mid s (findingOf q a) new r) where
-    pub number-there : r .open ≡ true → r .number < length (formulas q a)
-    number-there o = go (findingOf q a) refl h
+    pub number-byte : i < 256
+    number-byte = omega (arith, number-there, few q (q .change) (ok .change) (eqb a 1))
+
+    -- it is open, as the code compiles it
+    pub fine-open : (f : compiled.Formula) → Compiled f (formulaAt (formulas q a) i) → FineOpen f
+    fine-open f is = record { formula = formulaAt (formulas q a) i; is = is; proper = all-at Proper (formulas q a) (formulas-proper q ok a) i noFormula number-there; values = o .values; opens = rw (there .1) (there .2) }
+
+    -- ---- a no sheet: its header, and the rows of the leaf
+    pub sheet-no : (f : compiled.Formula) → Compiled f (formulaAt (formulas q a) i) → (values : M.Values)
+        → ((F : Formula) (x : Values) → Compiled f F → Proper F → growTree lastVertex F ≡ openAt x → Leaf (length (F .ranges)) x values)
+        → (old mid new : List ℕ) (s₁ s : Spot) → filling mid s₁ ≡ puts (filling old atStart) (header a sayNo)
+        → ((F : Formula) (x : Values) → F .pairs ≡ f .pairs → Alike (fields q F) values x → filling new s ≡ puts (filling mid s₁) (noBytes q i F x))
+        → filling new s ≡ puts (filling old atStart) (sheetOf q a)
+    unfolding sheetOf fine-open
+    sheet-no f is values leaf old mid new s₁ s h w =
+        let F = formulaAt (formulas q a) i in
+        let x = o .values in
+        let fine = fine-open f is in
+        let span : length (F .ranges) ≡ fields q F = fields-span q a i noFormula number-there in
+        let alike : Alike (fields q F) values x = subst (λ n. Alike n values x) span (leaf F x is (fine .proper) (fine .opens)) in
+        let e : sheetFor q a (findingOf q a) ≡ header a sayNo ++ noBytes q i F x = ap (sheetFor q a) (o .finding) ∙ ap (λ G. header a sayNo ++ noBytes q i G x) (sym (there .1)) in
+        w F x (sym (is .pairs)) alike ∙ ap (λ g. puts g (noBytes q i F x)) h ∙ sym (puts-append (filling old atStart) (header a sayNo) (noBytes q i F x)) ∙ ap (puts (filling old atStart)) (sym e)
+
+  -- ---- a yes sheet: its header, and every tree
+  pub sheet-yes : AllShut q a → (old mid new : List ℕ) (s₁ s : Spot) → filling mid s₁ ≡ puts (filling old atStart) (header a sayYes)
+      → ((ts : List Tree) → findingOf q a ≡ allShut ts → filling new s ≡ puts (filling mid s₁) (bytesAll ts))
+      → filling new s ≡ puts (filling old atStart) (sheetOf q a)
+  unfolding sheetOf
+  sheet-yes (ts, e) old mid new s₁ s h w = w ts e ∙ ap (λ g. puts g (bytesAll ts)) h ∙ sym (puts-append (filling old atStart) (header a sayYes) (bytesAll ts)) ∙ ap (puts (filling old atStart)) (sym (ap (sheetFor q a) e))
+
+  -- ---- which of them, by what was found
+  module _ (r : Found) (h : Finds (findingOf q a) r) where
+    pub is-open : r .open ≡ true → OpenFirst q a (r .number)
+    is-open o = go (findingOf q a) refl h
       where
-        go : (f : Finding) → findingOf q a ≡ f → Finds mid s f new r → r .number < length (formulas q a)
-        go (allShut ts) e k = absurd (true≢false (sym o ∙ k .0))
-        go (firstOpen i F x) e k = omega (arith, k .2, open-there i F x e .0)
+        go : (f : Finding) → findingOf q a ≡ f → Finds f r → OpenFirst q a (r .number)
+        go (allShut ts) e k = absurd (true≢false (sym o ∙ k))
+        go (firstOpen i F x) e k = record { formula = F; values = x; finding = e ∙ ap (λ n. firstOpen n F x) (sym (k .1)) }
 
-    pub number-byte : r .open ≡ true → r .number < 256
-    number-byte o = omega (arith, number-there o, few q (q .change) (ok .change) (eqb a 1))
+    pub is-shut : r .open ≡ false → AllShut q a
+    is-shut o = go (findingOf q a) refl h
+      where
+        go : (f : Finding) → findingOf q a ≡ f → Finds f r → AllShut q a
+        go (allShut ts) e k = (ts, e)
+        go (firstOpen i F x) e k = absurd (true≢false (sym (k .0) ∙ o))
 
-    -- where a yes sheet's header was put before
-    module _ (old : List ℕ) (d : filling mid s ≡ puts (filling old atStart) (header a sayYes)) where
-      pub lays-yes : r .open ≡ false → Lays old q a (findingOf q a) new (record { verdict = Yes; spot = r .spot })
-      lays-yes o = go (findingOf q a) h
-        where
-          go : (f : Finding) → Finds mid s f new r → Lays old q a f new (record { verdict = Yes; spot = r .spot })
-          go (allShut ts) k =
-              let e : filling new (r .spot) ≡ puts (filling old atStart) (sheetFor q a (allShut ts)) = k .1 ∙ ap (λ f. puts f (bytesAll ts)) d ∙ sym (puts-append (filling old atStart) (header a sayYes) (bytesAll ts)) in
-              record { says = refl; long = laid-length old _ new (r .spot) e; stands = laid-stands old _ new (r .spot) e }
-          go (firstOpen i F x) k = absurd (true≢false (sym (k .0) ∙ o))
+  -- what stands in the room then
+  pub lays : (v : Verdict) → verdictOf v ≡ verdictFor (findingOf q a) → (old new : List ℕ) (s : Spot) → filling new s ≡ puts (filling old atStart) (sheetOf q a) → Lays old q a (findingOf q a) new (record { verdict = v; spot = s })
+  unfolding sheetOf
+  lays v says old new s e = record { says = says; long = laid-length old _ new s e; stands = laid-stands old _ new s e }
 
-      -- a no sheet is put from the start again
-      pub lays-no : (again : List ℕ) (s₁ : Spot) → filling again s₁ ≡ puts (filling new atStart) (header a sayNo) → (last : List ℕ) (s₂ : Spot)
-          → ((F : Formula) (x : Values) → F .pairs ≡ r .pairs → Alike (fields q F) (r .values) x → filling last s₂ ≡ puts (filling again s₁) (noBytes q (r .number) F x))
-          → r .open ≡ true → Lays old q a (findingOf q a) last (record { verdict = No; spot = s₂ })
-      lays-no again s₁ g last s₂ w o = go (findingOf q a) refl h
-        where
-          go : (f : Finding) → findingOf q a ≡ f → Finds mid s f new r → Lays old q a f last (record { verdict = No; spot = s₂ })
-          go (allShut ts) e k = absurd (true≢false (sym o ∙ k .0))
-          go (firstOpen i F x) e k =
-              let t : filling last s₂ ≡ puts (filling new atStart) (sheetFor q a (firstOpen i F x)) = w F x (sym (k .3)) (alike i F x (r .values) e (k .4)) ∙ ap (λ n. puts (filling again s₁) (noBytes q n F x)) (k .2) ∙ ap (λ f. puts f (noBytes q i F x)) g ∙ sym (puts-append (filling new atStart) (header a sayNo) (noBytes q i F x)) in
-              record { says = refl; long = laid-length new _ last s₂ t ∙ k .1 ∙ laid-length old _ mid s d; stands = laid-stands new _ last s₂ t }
+  pub says-no : (i : ℕ) → OpenFirst q a i → sayNo ≡ verdictFor (findingOf q a)
+  says-no i o = sym (ap verdictFor (o .finding))
+
+  pub says-yes : AllShut q a → sayYes ≡ verdictFor (findingOf q a)
+  says-yes o = sym (ap verdictFor (o .1))

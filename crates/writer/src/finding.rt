@@ -1,54 +1,38 @@
-// Every formula's tree, one after another; or the first formula that is open.
+// The first formula that is open. The tableau tells, so no tree is walked.
 use formula::formulas::formula;
 use formula::formulas::formula_count;
 use question::types::Question;
-use room::Spot;
-use writer_trees::planting::plant_formula;
+use tableau::opening::formula_opens;
 ghost use Rattle.question.specs.Held.{Held, questionOf};
 ghost use Rattle.page_questions.specs.Accepted.{Accepted};
 ghost use Rattle.page_sheets.specs.Sheet.{findingOf};
 ghost use Rattle.writer.specs.Finding.{Finds};
 
-// All trees were written up to a spot; or formula `number` is open, with the values at its vertices.
+// Is a formula open? If so, the first one's number.
 pub struct Found {
     pub open: bool,
     pub number: usize,
-    pub pairs: bool,
-    pub spot: Spot,
-    pub values: [i64; 17],
 }
 
-pub fn find(room: &mut [u8], spot: Spot, q: Question, asked: u8) -> Found
+pub fn first_open(q: Question, asked: u8) -> Found
     requires { ⌜ Held q × Accepted (questionOf q) ⌝ }
-    ensures { λ r. ⌜ Finds (now (room .entry)) spot (findingOf (questionOf q) asked) (now (room .exit)) r ⌝ }
+    ensures { λ r. ⌜ Finds (findingOf (questionOf q) asked) r ⌝ }
 {
     let n = formula_count(q, asked);
-    let mut next = spot;
     let mut i: usize = 0;
     while i < n {
         let f = formula(q, asked, i);
-        let pairs = f.pairs;
-        let grown = plant_formula(room, next, f);
-        let values = grown.values;
-        let open = grown.open;
-        if open {
+        let r = formula_opens(f);
+        if r.open {
             return Found {
                 open: true,
                 number: i,
-                pairs,
-                spot: next,
-                values,
             };
         }
-        let after = grown.spot;
-        next = after;
         i += 1;
     }
     Found {
         open: false,
         number: n,
-        pairs: false,
-        spot: next,
-        values: [0; 17],
     }
 }

@@ -2,3 +2,4 @@
 mod finding;
 pub mod finishing;
 mod laying;
+mod sheets;

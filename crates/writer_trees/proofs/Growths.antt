@@ -1,7 +1,7 @@
 -- Laws for the writer's recursion: a node is written, then one half and the other; the facts and their closure go down with each decision.
 use Prim.Native.Nat.{ℕ, suc, _≤_}
 use mathlib.Core.Path.{_≡_, refl, sym, ap, _∙_}
-use mathlib.Core.Bool.{Bool, true, false, cond, true≢false}
+use mathlib.Core.Bool.{Bool, true, false, cond}
 use mathlib.Core.Option.{Option, none, some}
 use mathlib.Core.List.{List, [], _∷_}
 use native.Mathlib.Omega.{arith}
@@ -31,36 +31,28 @@ use Rattle.room.specs.Room.{Filling, filling, putOne, puts}
 use Rattle.writer_trees.specs.Growing.{Grows, Ready, cutBytes}
 use Rattle.grid.specs.Edges.{Fact, Kept}
 use Rattle.room.specs.declared.Spot.{Spot}
-use Rattle.writer_trees.specs.declared.growing.Grown.{Grown}
 use Rattle.page_sheets.proofs.Fasts.{Same}
-use Rattle.room.proofs.Puts.{puts-append, puts-length}
+use Rattle.room.proofs.Puts.{puts-append, puts-over}
 
 -- ---- what is left by growths
 
 -- growths that are the same at the vertices leave the same
-pub grows-same : (last : ℕ) (F : Formula) (a b : Growth) → Same last F a b → (old : List ℕ) (s : Spot) (new : List ℕ) (r : Grown) → Grows last old s b new r → Grows last old s a new r
-grows-same last F (shut t) (shut t′) e old s new r g = (g .0, g .1 ∙ ap (λ x. puts (filling old s) (bytesOf x)) (sym e))
+pub grows-same : (last : ℕ) (F : Formula) (a b : Growth) → Same last F a b → (old : List ℕ) (s : Spot) (new : List ℕ) (r : Spot) → Grows old s b new r → Grows old s a new r
+grows-same last F (shut t) (shut t′) e old s new r g = g ∙ ap (λ x. puts (filling old s) (bytesOf x)) (sym e)
 grows-same last F (shut t) (openAt y) e old s new r g = absurd e
-grows-same last F (openAt x) (shut t′) e old s new r g = absurd e
-grows-same last F (openAt x) (openAt y) e old s new r g = (g .0, g .1, λ v h. g .2 v h ∙ sym (e v h))
+grows-same last F (openAt x) b e old s new r g = tt
 
-module _ (last : ℕ) (old mid : List ℕ) (s s₁ : Spot) (three : filling mid s₁ ≡ putOne (filling old s) 3) where
-  mid-length : length mid ≡ length old
-  unfolding puts
-  mid-length = ap (λ f. length (f .bytes)) three ∙ puts-length (filling old s) (3 ∷ [])
+-- past the room's end nothing is stored
+pub grows-over : (a : Growth) (old : List ℕ) (s : Spot) → s .over ≡ true → Grows old s a old s
+grows-over (shut t) old s e = sym (puts-over (filling old s) (bytesOf t) e)
+grows-over (openAt x) old s e = tt
 
-  -- the first half is open, and so is the branch
-  pub grows-first : (a b : Growth) (new : List ℕ) (r : Grown) → r .open ≡ true → Grows last mid s₁ a new r → Grows last old s (join a b) new r
-  grows-first (shut t) b new r o g = absurd (true≢false (sym o ∙ g .0))
-  grows-first (openAt x) b new r o g = (g .0, g .1 ∙ mid-length, g .2)
-
-  -- the first half is shut: the second decides
-  pub grows-second : (a b : Growth) (mid₂ new : List ℕ) (r₁ r : Grown) → r₁ .open ≡ false → Grows last mid s₁ a mid₂ r₁ → Grows last mid₂ (r₁ .spot) b new r → Grows last old s (join a b) new r
-  unfolding bytesOf puts
-  grows-second (openAt x) b mid₂ new r₁ r o g h = absurd (true≢false (sym (g .0) ∙ o))
-  grows-second (shut t) (openAt x) mid₂ new r₁ r o g h = (h .0, h .1 ∙ ap (λ f. length (f .bytes)) (g .1) ∙ puts-length (filling mid s₁) (bytesOf t) ∙ mid-length, h .2)
-  grows-second (shut t) (shut u) mid₂ new r₁ r o g h =
-      (h .0, h .1 ∙ ap (λ f. puts f (bytesOf u)) (g .1 ∙ ap (λ f. puts f (bytesOf t)) three) ∙ sym (puts-append (putOne (filling old s) 3) (bytesOf t) (bytesOf u)))
+-- a node, one half and the other
+pub grows-join : (a b : Growth) (old mid mid₂ new : List ℕ) (s s₁ s₂ r : Spot) → filling mid s₁ ≡ putOne (filling old s) 3 → Grows mid s₁ a mid₂ s₂ → Grows mid₂ s₂ b new r → Grows old s (join a b) new r
+unfolding bytesOf puts
+grows-join (openAt x) b old mid mid₂ new s s₁ s₂ r three g h = tt
+grows-join (shut t) (openAt x) old mid mid₂ new s s₁ s₂ r three g h = tt
+grows-join (shut t) (shut u) old mid mid₂ new s s₁ s₂ r three g h = h ∙ ap (λ f. puts f (bytesOf u)) (g ∙ ap (λ f. puts f (bytesOf t)) three) ∙ sym (puts-append (putOne (filling old s) 3) (bytesOf t) (bytesOf u))
 
 -- a kept grid is within the bounds of the search
 pub kept-within : (g : Grid) → Kept g → (n : ℕ) → AllWithin farN n g
@@ -95,12 +87,10 @@ module _ (last : ℕ) (left right : List ℕ) (most : List ℤ) (g near : Grid) 
     pub ready-next : pos 0 ≤ℤ (weight near to from +ℤ k) → Ready last left right most (tighten g from to k) (tabled (relax (weight near) from to k) (suc last) near)
     ready-next h =
         let g₂ = tighten g from to k in
-        let few : suc last ≤ 17 = omega (arith, ready .few) in
-        let t = tightened 17 g from to k (ready .kept .sized) (omega (arith, ready .few, fact .from-is)) (omega (arith, ready .few, fact .to-is)) in
+        let few : suc last ≤ 17 = omega (arith, ready .places .few) in
+        let t = tightened 17 g from to k (ready .kept .sized) (omega (arith, ready .places .few, fact .from-is)) (omega (arith, ready .places .few, fact .to-is)) in
         record {
-          few = ready .few;
-          as-long = ready .as-long;
-          facts = ready .facts;
+          places = ready .places;
           closed = tabled-closure (suc last) 17 (weight g₂) (relax (weight near) from to k) near few (ready .table) (relax-closure (suc last) (weight g) (weight near) (ready .closed) from to k (fact .from-is) (fact .to-is) (weight g₂) t h);
           kept = kept-next last from to k fact g (ready .kept);
           table = tabled-sized (relax (weight near) from to k) 17 (suc last) near few (ready .table);

@@ -9,11 +9,11 @@ use lib.ListN.{length, getD, drop, set}
 use lib.IntN.{ℤ, pos, _+ℤ_}
 use lib.Signed.{ltZ}
 use Rattle.page_meaning.specs.Limits.{mostVertices}
-use Rattle.page_walks.specs.Grid.{Grid, row, weight, tighten}
+use Rattle.page_walks.specs.Grid.{Grid, weight, tighten}
 use Rattle.page_walks.specs.Sizes.{tabled, Sized}
 use Rattle.page_walks.specs.Near.{relax}
 use Rattle.page_walks.specs.Search.{search}
-use Rattle.page_walks.proofs.Rows.{read, tabled-at}
+use Rattle.page_walks.proofs.Rows.{tabled-at}
 use Rattle.page_formulas.specs.Formulas.{Formula}
 use Rattle.page_formulas.specs.Known.{Three, fails, passes, open?, known}
 use Rattle.page_formulas.specs.Kinds.{knownKinds, nowhere}
@@ -24,17 +24,17 @@ use Rattle.program.specs.Lent.{Lent, placeAt}
 use Rattle.page_sheets.specs.Facts.{negation, taken}
 use Rattle.page_sheets.specs.Fast.{calmNode, strainedNode, fast, sideOf, after}
 use Rattle.page_sheets.specs.Grow.{Growth, shut, openAt, join}
-use Rattle.page_sheets.specs.Tree.{bytesOf, falseLeaf}
+use Rattle.page_sheets.specs.Tree.{bytesOf}
 use Rattle.room.specs.Room.{filling, putOne, puts}
-use Rattle.writer_trees.specs.Growing.{decisions, Grows, Ready, cutBytes, fastAt, sideBy}
+use Rattle.writer_trees.specs.Growing.{decisions, Grows, Placing, Ready, cutBytes, fastAt, sideBy}
 use Rattle.room.specs.declared.Spot.{Spot}
-use Rattle.writer_trees.specs.declared.growing.Grown.{Grown}
 use Rattle.page_questions.specs.Accepted.{Every}
 use Rattle.page_sheets.proofs.FastAmong.{SameBelow, Ends, fast-table}
 use Rattle.program.proofs.Lends.{lent-most, lent-place}
 use Rattle.truth.proofs.Cells.{decided-more}
 use Rattle.page_sheets.proofs.Steps.{fast-split, fast-end}
-use Rattle.writer_trees.proofs.Growths.{grows-same, grows-first, grows-second}
+use Rattle.page_sheets.proofs.Descends.{leaf-known, leaf-false}
+use Rattle.writer_trees.proofs.Growths.{grows-same, grows-join}
 
 all-of : (P : Place → Type 0) (ps : List Place) (d : Place) → ((i : ℕ) → i < length ps → P (getD ps i d)) → Every P ps
 all-of P [] d f = tt
@@ -46,22 +46,16 @@ all-drop P (suc n) [] a = tt
 all-drop P (suc n) (p ∷ ps) a = all-drop P n ps (a .1)
 
 module _ (last : ℕ) (F : Formula) (kinds left right : List ℕ) (most : List ℤ) (lent : Lent (F .program) kinds left right most) where
-  known-lent : (ds : List Bool) (k : Three) → knownKinds kinds ds ≡ k → known (F .program) ds ≡ k
+  -- the places are between vertices up to the last
+  pub all-ends : Placing last left right most → Every (Ends last F) (places (F .program))
+  all-ends placing = all-of (Ends last F) (places (F .program)) nowhere (λ i l. let m : i < length most = omega (arith, lent-most (F .program) kinds left right most lent) in rw (← lent-place (F .program) kinds left right most lent i) (placing .facts i m true .to-is, placing .facts i m true .from-is))
+
+  pub known-lent : (ds : List Bool) (k : Three) → knownKinds kinds ds ≡ k → known (F .program) ds ≡ k
   known-lent ds k e = known-kinds (F .program) ds ∙ ap (λ x. knownKinds x ds) (sym (lent .kinds)) ∙ e
 
   module _ (truths : List ℕ) (g near : Grid) (decided : ℕ) where
     abbrev ds : List Bool
     ds = decisions truths decided
-
-    fast-fails : (todo : List Place) → known (F .program) ds ≡ fails → fast last F todo ds g (weight near) ≡ shut falseLeaf
-    unfolding fast
-    fast-fails [] e = rw e
-    fast-fails (p ∷ todo) e = rw e
-
-    fast-passes : (todo : List Place) → known (F .program) ds ≡ passes → fast last F todo ds g (weight near) ≡ openAt (weight near 0)
-    unfolding fast
-    fast-passes [] e = rw e
-    fast-passes (p ∷ todo) e = rw e
 
     fast-ends : length most ≤ decided → known (F .program) ds ≡ open? → fastAt last F decided truths g near ≡ openAt (weight near 0)
     fast-ends h e = fast-end last F ds g (places (F .program)) decided nowhere (weight near) (omega (arith, lent-most (F .program) kinds left right most lent)) ∙ rw e
@@ -79,22 +73,19 @@ module _ (last : ℕ) (F : Formula) (kinds left right : List ℕ) (most : List �
     side-is : (d : Bool) (b n : ℕ) → bit b ≡ d → n ≡ suc decided → decided < length truths → sideOf last F (placeAt left right most decided) (drop (suc decided) (places (F .program))) ds g (weight near) d ≡ sideBy last F n (set truths decided b) g near (taken (placeAt left right most decided) d .right) (taken (placeAt left right most decided) d .left) (taken (placeAt left right most decided) d .most)
     side-is d b n e m h = rw (m, decided-more truths decided b h, e)
 
-    module _ (old new : List ℕ) (s : Spot) (r : Grown) where
-      pub grows-false : (s₁ : Spot) → knownKinds kinds ds ≡ fails → r .open ≡ false → r .spot ≡ s₁ → filling new s₁ ≡ putOne (filling old s) 1 → Grows last old s (fastAt last F decided truths g near) new r
+    module _ (old new : List ℕ) (s r : Spot) where
+      pub grows-false : knownKinds kinds ds ≡ fails → filling new r ≡ putOne (filling old s) 1 → Grows old s (fastAt last F decided truths g near) new r
       unfolding bytesOf puts
-      grows-false s₁ e o d f = rw (fast-fails (drop decided (places (F .program))) (known-lent ds fails e)) (o, ap (filling new) d ∙ f)
+      grows-false e f = rw (leaf-false last F (drop decided (places (F .program))) ds g (weight near) (known-lent ds fails e)) f
 
-      open-row : Sized mostVertices near → last < mostVertices → r .values ≡ row near 0 → (v : ℕ) → v < suc last → getD (r .values) v (pos 0) ≡ weight near 0 v
-      open-row sz l e v h = rw e (read mostVertices near 0 v sz (omega arith) (omega arith))
+      pub grows-true : knownKinds kinds ds ≡ passes → Grows old s (fastAt last F decided truths g near) new r
+      grows-true e = rw (leaf-known last F (drop decided (places (F .program))) ds g (weight near) (known-lent ds passes e)) tt
 
-      pub grows-true : knownKinds kinds ds ≡ passes → Sized mostVertices near → last < mostVertices → r .open ≡ true → r .values ≡ row near 0 → length new ≡ length old → Grows last old s (fastAt last F decided truths g near) new r
-      grows-true e sz l o v n = rw (fast-passes (drop decided (places (F .program))) (known-lent ds passes e)) (o, n, open-row sz l v)
+      pub grows-end : knownKinds kinds ds ≡ open? → length most ≤ decided → Grows old s (fastAt last F decided truths g near) new r
+      grows-end e h = rw (fast-ends h (known-lent ds open? e)) tt
 
-      pub grows-end : knownKinds kinds ds ≡ open? → length most ≤ decided → Sized mostVertices near → last < mostVertices → r .open ≡ true → r .values ≡ row near 0 → length new ≡ length old → Grows last old s (fastAt last F decided truths g near) new r
-      grows-end e h sz l o v n = rw (fast-ends h (known-lent ds open? e)) (o, n, open-row sz l v)
-
-    -- both halves of a branch, or the first that is open
-    module _ (h : decided < length most) (unsure : knownKinds kinds ds ≡ open?) (t : decided < length truths) (n : ℕ) (next : n ≡ suc decided) (old mid : List ℕ) (s s₁ : Spot) (three : filling mid s₁ ≡ putOne (filling old s) 3) where
+    -- both halves of a branch
+    module _ (h : decided < length most) (unsure : knownKinds kinds ds ≡ open?) (t : decided < length truths) (n : ℕ) (next : n ≡ suc decided) where
       abbrev p : Place
       p = placeAt left right most decided
 
@@ -105,14 +96,11 @@ module _ (last : ℕ) (F : Formula) (kinds left right : List ℕ) (most : List �
       branch = fast-both h (known-lent ds open? unsure) ∙ ap₂ join (side-is true 1 n refl next t) (side-is false 0 n refl next t)
 
       -- a half as the code hands it on: the truths and the weight by their equations
-      handed : (d : Bool) (b : ℕ) (more : List ℕ) (k : ℤ) → more ≡ set truths decided b → k ≡ taken p d .most → (x : List ℕ) (y : Spot) (new : List ℕ) (r : Grown) → Grows last x y (sideBy last F n more g near (taken p d .right) (taken p d .left) k) new r → Grows last x y (side d b) new r
-      handed d b more k e f x y new r h = subst (λ z. Grows last x y (sideBy last F n (set truths decided b) g near (taken p d .right) (taken p d .left) z) new r) f (subst (λ z. Grows last x y (sideBy last F n z g near (taken p d .right) (taken p d .left) k) new r) e h)
+      handed : (d : Bool) (b : ℕ) (more : List ℕ) (k : ℤ) → more ≡ set truths decided b → k ≡ taken p d .most → (x : List ℕ) (y : Spot) (new : List ℕ) (r : Spot) → Grows x y (sideBy last F n more g near (taken p d .right) (taken p d .left) k) new r → Grows x y (side d b) new r
+      handed d b more k e f x y new r h = subst (λ z. Grows x y (sideBy last F n (set truths decided b) g near (taken p d .right) (taken p d .left) z) new r) f (subst (λ z. Grows x y (sideBy last F n z g near (taken p d .right) (taken p d .left) k) new r) e h)
 
-      pub branch-first : (more : List ℕ) (k : ℤ) → more ≡ set truths decided 1 → k ≡ p .most → (new : List ℕ) (r : Grown) → r .open ≡ true → Grows last mid s₁ (sideBy last F n more g near (p .right) (p .left) k) new r → Grows last old s (fastAt last F decided truths g near) new r
-      branch-first more k e f new r o a = rw branch (grows-first last old mid s s₁ three (side true 1) (side false 0) new r o (handed true 1 more k e f mid s₁ new r a))
-
-      pub branch-second : (more more₂ : List ℕ) (k k₂ : ℤ) → more ≡ set truths decided 1 → k ≡ p .most → more₂ ≡ set truths decided 0 → k₂ ≡ negation p .most → (mid₂ new : List ℕ) (r₁ r : Grown) → r₁ .open ≡ false → Grows last mid s₁ (sideBy last F n more g near (p .right) (p .left) k) mid₂ r₁ → Grows last mid₂ (r₁ .spot) (sideBy last F n more₂ g near (p .left) (p .right) k₂) new r → Grows last old s (fastAt last F decided truths g near) new r
-      branch-second more more₂ k k₂ e f e₂ f₂ mid₂ new r₁ r o a b = rw branch (grows-second last old mid s s₁ three (side true 1) (side false 0) mid₂ new r₁ r o (handed true 1 more k e f mid s₁ mid₂ r₁ a) (handed false 0 more₂ k₂ e₂ f₂ mid₂ (r₁ .spot) new r b))
+      pub branch-both : (old mid mid₂ new : List ℕ) (s s₁ s₂ r : Spot) → filling mid s₁ ≡ putOne (filling old s) 3 → (more more₂ : List ℕ) (k k₂ : ℤ) → more ≡ set truths decided 1 → k ≡ p .most → more₂ ≡ set truths decided 0 → k₂ ≡ negation p .most → Grows mid s₁ (sideBy last F n more g near (p .right) (p .left) k) mid₂ s₂ → Grows mid₂ s₂ (sideBy last F n more₂ g near (p .left) (p .right) k₂) new r → Grows old s (fastAt last F decided truths g near) new r
+      branch-both old mid mid₂ new s s₁ s₂ r three more more₂ k k₂ e f e₂ f₂ a b = rw branch (grows-join (side true 1) (side false 0) old mid mid₂ new s s₁ s₂ r three (handed true 1 more k e f mid s₁ mid₂ s₂ a) (handed false 0 more₂ k₂ e₂ f₂ mid₂ s₂ new r b))
 
 -- ---- half of a branch, by its fact: the edge from `from` to `to` of weight k
 module _ (last : ℕ) (F : Formula) (kinds left right : List ℕ) (most : List ℤ) (lent : Lent (F .program) kinds left right most) (truths : List ℕ) (g near : Grid) (decided from to : ℕ) (k : ℤ) where
@@ -125,33 +113,29 @@ module _ (last : ℕ) (F : Formula) (kinds left right : List ℕ) (most : List �
   abbrev so-far : List Bool
   so-far = decisions truths decided
 
-  strained-grows : (k₃ : Three) (o : Option (List ℕ)) (old new : List ℕ) (s : Spot) (r : Grown) → r .open ≡ false → filling new (r .spot) ≡ puts (filling old s) (cutBytes (strainedNode k₃ o)) → Grows last old s (strainedNode k₃ o) new r
-  strained-grows fails o old new s r e f = (e, f)
-  strained-grows passes o old new s r e f = (e, f)
-  strained-grows open? o old new s r e f = (e, f)
+  strained-grows : (k₃ : Three) (o : Option (List ℕ)) (old new : List ℕ) (s r : Spot) → filling new r ≡ puts (filling old s) (cutBytes (strainedNode k₃ o)) → Grows old s (strainedNode k₃ o) new r
+  strained-grows fails o old new s r f = f
+  strained-grows passes o old new s r f = f
+  strained-grows open? o old new s r f = f
 
   -- it closes a negative cycle
-  pub side-cut : (x : ℤ) (facts₁ : Grid) → x ≡ weight near to from +ℤ k → facts₁ ≡ facts → (old new : List ℕ) (s s₁ : Spot) (r : Grown) → ltZ x (pos 0) ≡ true → r .open ≡ false → r .spot ≡ s₁ → filling new s₁ ≡ puts (filling old s) (cutBytes (strainedNode (knownKinds kinds so-far) (search (weight facts₁) last))) → Grows last old s (sideBy last F decided truths g near from to k) new r
-  side-cut x facts₁ e i old new s s₁ r t o d f =
-      let f₂ = subst (λ y. filling new s₁ ≡ puts (filling old s) (cutBytes (strainedNode (knownKinds kinds so-far) (search (weight y) last)))) i f in
-      rw (subst (λ y. ltZ y (pos 0) ≡ true) e t) (rw (known-lent last F kinds left right most lent so-far (knownKinds kinds so-far) refl) (strained-grows (knownKinds kinds so-far) (search (weight facts) last) old new s r o (ap (filling new) d ∙ f₂)))
+  pub side-cut : (x : ℤ) (facts₁ : Grid) → x ≡ weight near to from +ℤ k → facts₁ ≡ facts → (old new : List ℕ) (s r : Spot) → ltZ x (pos 0) ≡ true → filling new r ≡ puts (filling old s) (cutBytes (strainedNode (knownKinds kinds so-far) (search (weight facts₁) last))) → Grows old s (sideBy last F decided truths g near from to k) new r
+  side-cut x facts₁ e i old new s r t f =
+      let f₂ = subst (λ y. filling new r ≡ puts (filling old s) (cutBytes (strainedNode (knownKinds kinds so-far) (search (weight y) last)))) i f in
+      rw (subst (λ y. ltZ y (pos 0) ≡ true) e t) (rw (known-lent last F kinds left right most lent so-far (knownKinds kinds so-far) refl) (strained-grows (knownKinds kinds so-far) (search (weight facts) last) old new s r f₂))
 
   -- the closure with it, in a table
   abbrev closer : Grid
   closer = tabled (relax (weight near) from to k) (suc last) near
 
+  -- the table has its entries
+  pub closer-same : last < mostVertices → Sized mostVertices near → SameBelow last F (after (weight near) q) (weight closer)
+  closer-same few table u v hu hv = sym (tabled-at (relax (weight near) from to k) mostVertices (suc last) near (omega arith) table u v hu hv)
+
   -- it does not
-  pub side-calm : (x : ℤ) (facts₁ closer₁ : Grid) → x ≡ weight near to from +ℤ k → facts₁ ≡ facts → closer₁ ≡ closer → (old new : List ℕ) (s : Spot) (r : Grown) → ltZ x (pos 0) ≡ false → Ready last left right most g near → Grows last old s (fastAt last F decided truths facts₁ closer₁) new r → Grows last old s (sideBy last F decided truths g near from to k) new r
+  pub side-calm : (x : ℤ) (facts₁ closer₁ : Grid) → x ≡ weight near to from +ℤ k → facts₁ ≡ facts → closer₁ ≡ closer → (old new : List ℕ) (s r : Spot) → ltZ x (pos 0) ≡ false → Ready last left right most g near → Grows old s (fastAt last F decided truths facts₁ closer₁) new r → Grows old s (sideBy last F decided truths g near from to k) new r
   side-calm x facts₁ closer₁ e i j old new s r t ready h =
-      let h₂ = subst (λ y. Grows last old s (fastAt last F decided truths facts y) new r) j (subst (λ y. Grows last old s (fastAt last F decided truths y closer₁) new r) i h) in
+      let todo = drop decided (places (F .program)) in
+      let h₂ = subst (λ y. Grows old s (fastAt last F decided truths facts y) new r) j (subst (λ y. Grows old s (fastAt last F decided truths y closer₁) new r) i h) in
       rw (subst (λ y. ltZ y (pos 0) ≡ false) e t) (grows-same last F (fast last F todo so-far facts (after (weight near) q)) (fast last F todo so-far facts (weight closer))
-      (fast-table last F todo so-far facts (after (weight near) q) (weight closer) same (all-drop (Ends last F) decided (places (F .program)) all-ends)) old s new r h₂)
-    where
-      todo : List Place
-      todo = drop decided (places (F .program))
-
-      same : SameBelow last F (after (weight near) q) (weight closer)
-      same u v hu hv = sym (tabled-at (relax (weight near) from to k) mostVertices (suc last) near (omega (arith, ready .few)) (ready .table) u v hu hv)
-
-      all-ends : Every (Ends last F) (places (F .program))
-      all-ends = all-of (Ends last F) (places (F .program)) nowhere (λ i l. let m : i < length most = omega (arith, lent-most (F .program) kinds left right most lent) in rw (← lent-place (F .program) kinds left right most lent i) (ready .facts i m true .to-is, ready .facts i m true .from-is))
+      (fast-table last F todo so-far facts (after (weight near) q) (weight closer) (closer-same (ready .places .few) (ready .table)) (all-drop (Ends last F) decided (places (F .program)) (all-ends last F kinds left right most lent (ready .places)))) old s new r h₂)

@@ -1,4 +1,7 @@
 pub mod Growths
 pub mod Halves
+pub mod Descents
+pub mod Tries
 pub mod Starts
 pub mod Plants
+pub mod Roots

@@ -16,7 +16,7 @@ use Rattle.page_numbers.specs.Numbers.{up, dn, minZ}
 use Rattle.page_numbers.proofs.Bridge.{ints, +law, neg-up, neg-dn}
 use Rattle.page_walks.specs.Grid.{Grid, weight, tighten, blank, far, farN}
 use Rattle.page_walks.specs.Sizes.{tabled, Sized, Bounded, AllWithin}
-use Rattle.page_walks.specs.Near.{Weights, relax, nearBlank, Closure}
+use Rattle.page_walks.specs.Near.{Weights, relax, nearBlank, Closure, Triangle}
 use Rattle.page_walks.specs.Walk.{Sat}
 use Rattle.page_walks.proofs.Grids.{tighten-le, tighten-sized, blank-sized, blank-far}
 use Rattle.page_walks.proofs.Rows.{tabled-sized, tabled-at}
@@ -180,6 +180,9 @@ module _ (count : ℕ) (present : List Bool) (lo hi : List ℤ) (s : Ranged coun
 
       first-same : SameIn (relax (g .sums) 0 v (getD hi v (pos 0))) near₁
       first-same = rw (f, d) (relax-same (g .sums) near 0 v (getD hi v (pos 0)) (g .table) (s .some-vertex) h (g .same))
+
+      pub first-triangle : Triangle count (weight near₁)
+      first-triangle = first-closed .triangle
 
       pub first-within : AllWithin farN count near₁
       first-within = within-far count (s .few) lowest (tighten (g .facts) 0 v (getD hi v (pos 0))) near₁ first-met first-closed

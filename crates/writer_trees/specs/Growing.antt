@@ -1,12 +1,12 @@
 -- What the writer's code holds at a node, and what it leaves there.
 use Prim.Native.Nat.{ℕ, suc, _≤_, _<_}
 use mathlib.Core.Path.{_≡_}
-use mathlib.Core.Bool.{Bool, true, false}
+use mathlib.Core.Bool.{Bool}
 use mathlib.Core.List.{List, [], map}
-use lib.ListN.{length, getD, take, drop}
-use lib.IntN.{ℤ, pos}
-use Rattle.page_numbers.specs.Numbers.{up}
-use Rattle.page_walks.specs.Grid.{Grid, weight, tighten, far}
+use lib.ListN.{length, take, drop}
+use lib.IntN.{ℤ}
+use Rattle.page_meaning.specs.Limits.{mostVertices, mostDecisions}
+use Rattle.page_walks.specs.Grid.{Grid, weight, tighten}
 use Rattle.page_walks.specs.Sizes.{Sized}
 use Rattle.page_walks.specs.Near.{Closure}
 use Rattle.page_formulas.specs.Program.{Place, places}
@@ -19,17 +19,16 @@ use Rattle.page_sheets.specs.Tree.{bytesOf}
 use Rattle.page_sheets.specs.Grow.{Growth, shut, openAt}
 use Rattle.room.specs.Room.{filling, puts}
 use Rattle.room.specs.declared.Spot.{Spot}
-use Rattle.writer_trees.specs.declared.growing.Grown.{Grown}
 use Rattle.grid.specs.Edges.{Fact, Kept}
 
 -- the decisions made so far, from their bytes
 abbrev pub decisions : List ℕ → ℕ → List Bool
 decisions truths decided = map bit (take decided truths)
 
--- what a growth leaves in the room and in the answer: the tree's bytes; or the values at the vertices up to the last
-abbrev pub Grows : ℕ → List ℕ → Spot → Growth → List ℕ → Grown → Type 0
-Grows last old s (shut t) new r = (r .open ≡ false) × (filling new (r .spot) ≡ puts (filling old s) (bytesOf t))
-Grows last old s (openAt x) new r = (r .open ≡ true) × (length new ≡ length old) × ((v : ℕ) → v < suc last → getD (r .values) v (pos 0) ≡ x v)
+-- what a growth leaves in the room: the tree's bytes. Of an open formula no tree is asked for
+abbrev pub Grows : List ℕ → Spot → Growth → List ℕ → Spot → Type 0
+Grows old s (shut t) new r = filling new r ≡ puts (filling old s) (bytesOf t)
+Grows old s (openAt x) new r = Unit {0}
 
 -- the bytes of a node that is shut
 abbrev pub cutBytes : Growth → List ℕ
@@ -50,11 +49,15 @@ sideBy last F decided truths g near from to k =
 
 -- ---- what the code must be given
 
--- places between vertices up to the last, with small constants; a grid of such facts and its closure
-pub record Ready (last : ℕ) (left right : List ℕ) (most : List ℤ) (g near : Grid) : Type 0 where
-  pub few : last < 17
-  pub as-long : (length left ≡ length most) × (length right ≡ length most) × (length most ≤ 120)
+-- places between vertices up to the last, with small constants
+pub record Placing (last : ℕ) (left right : List ℕ) (most : List ℤ) : Type 0 where
+  pub few : last < mostVertices
+  pub as-long : (length left ≡ length most) × (length right ≡ length most) × (length most ≤ mostDecisions)
   pub facts : (i : ℕ) → i < length most → (d : Bool) → Fact last (taken (placeAt left right most i) d .right) (taken (placeAt left right most i) d .left) (taken (placeAt left right most i) d .most)
+
+-- and a grid of such facts with its closure
+pub record Ready (last : ℕ) (left right : List ℕ) (most : List ℤ) (g near : Grid) : Type 0 where
+  pub places : Placing last left right most
   pub closed : Closure (suc last) (weight g) (weight near)
   pub kept : Kept g
-  pub table : Sized 17 near
+  pub table : Sized mostVertices near

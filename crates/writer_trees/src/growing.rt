@@ -12,13 +12,12 @@ use truth::knowing::Truth;
 use truth::knowing::known;
 ghost use Prim.Native.Nat.{_-_, _≤_, _<_};
 ghost use mathlib.Core.Path.{_≡_};
-ghost use mathlib.Core.Bool.{true, false};
 ghost use lib.ListN.{length, set, take};
 ghost use Rattle.page_formulas.specs.Formulas.{Formula};
 ghost use Rattle.page_formulas.specs.Kinds.{knownKinds};
 ghost use Rattle.truth.specs.Cells.{threeOf};
 ghost use Rattle.page_sheets.specs.Tree.{bytesOf, cycle};
-ghost use Rattle.page_walks.specs.Grid.{weight, row, tighten};
+ghost use Rattle.page_walks.specs.Grid.{weight, tighten};
 ghost use Rattle.page_walks.specs.Search.{search};
 ghost use Rattle.program.specs.Lent.{Lent};
 ghost use Rattle.page_sheets.specs.Fast.{strainedNode, cycleOf};
@@ -26,22 +25,11 @@ ghost use Rattle.room.specs.Room.{filling, puts};
 ghost use Rattle.writer_trees.specs.Growing.{Grows, decisions, Ready, cutBytes, fastAt, sideBy};
 ghost use Rattle.grid.specs.Edges.{Fact, Kept};
 
-// A formula's tree was written up to a spot; or it is open, with the values at its vertices.
-pub struct Grown {
-    pub open: bool,
-    pub spot: Spot,
-    pub values: [i64; 17],
-}
-
-// A node that needs nothing more.
-fn shut(spot: Spot) -> Grown
-    ensures { λ r. ⌜ (r .open ≡ false) × (r .spot ≡ spot) ⌝ }
-{
-    Grown {
-        open: false,
-        spot: spot,
-        values: [0; 17],
-    }
+// A fact as an edge.
+pub struct Edge {
+    pub from: usize,
+    pub to: usize,
+    pub weight: i64,
 }
 
 // Node 2: the first so many vertices.
@@ -55,33 +43,25 @@ fn put_cycle(room: &mut [u8], spot: Spot, vertices: [u8; 17], count: usize) -> S
 }
 
 // What is known under the first of the truths.
-fn known_so_far(kinds: &[u8], truths: [u8; 120], decided: usize) -> Truth
+pub fn known_so_far(kinds: &[u8], truths: [u8; 120], decided: usize) -> Truth
     requires { ⌜ (length (now kinds) ≤ 320) × (decided ≤ 120) ⌝ }
     ensures { λ r. ⌜ threeOf r ≡ knownKinds (now (kinds .entry)) (decisions truths decided) ⌝ }
 {
     known(kinds, &truths[..decided])
 }
 
-// Node 2, by the search among the facts and one more, an edge of weight k.
-fn put_search(
-    room: &mut [u8],
-    spot: Spot,
-    g: &[[i64; 17]; 17],
-    last: usize,
-    from: usize,
-    to: usize,
-    k: i64,
-) -> Spot
-    requires { ⌜ (last < 17) × Kept (now g) × Fact last from to k ⌝ }
-    ensures { λ r. ⌜ filling (now (room .exit)) r ≡ puts (filling (now (room .entry)) spot) (bytesOf (cycle (cycleOf (search (weight (tighten (now (g .entry)) from to k)) last)))) ⌝ }
+// Node 2, by the search among the facts and one more.
+fn put_search(room: &mut [u8], spot: Spot, g: &[[i64; 17]; 17], last: usize, e: Edge) -> Spot
+    requires { ⌜ (last < 17) × Kept (now g) × Fact last (e .from) (e .to) (e .weight) ⌝ }
+    ensures { λ r. ⌜ filling (now (room .exit)) r ≡ puts (filling (now (room .entry)) spot) (bytesOf (cycle (cycleOf (search (weight (tighten (now (g .entry)) (e .from) (e .to) (e .weight))) last)))) ⌝ }
 {
-    let facts = tighten(*g, from, to, k);
+    let facts = tighten(*g, e.from, e.to, e.weight);
     let c = search(&facts, last + 1);
     let vertices = c.vertices;
     put_cycle(room, spot, vertices, c.count)
 }
 
-// A node whose last fact closes a negative cycle. Where a byte found no room there is nothing to do: nothing more would be stored.
+// A node whose last fact closes a negative cycle.
 fn cut(
     room: &mut [u8],
     spot: Spot,
@@ -90,22 +70,16 @@ fn cut(
     decided: usize,
     g: &[[i64; 17]; 17],
     last: usize,
-    from: usize,
-    to: usize,
-    k: i64,
+    e: Edge,
 ) -> Spot
-    requires { ⌜ (length (now kinds) ≤ 320) × (decided ≤ 120) × (last < 17) × Kept (now g) × Fact last from to k ⌝ }
-    ensures { λ r. ⌜ filling (now (room .exit)) r ≡ puts (filling (now (room .entry)) spot) (cutBytes (strainedNode (knownKinds (now (kinds .entry)) (decisions truths decided)) (search (weight (tighten (now (g .entry)) from to k)) last))) ⌝ }
+    requires { ⌜ (length (now kinds) ≤ 320) × (decided ≤ 120) × (last < 17) × Kept (now g) × Fact last (e .from) (e .to) (e .weight) ⌝ }
+    ensures { λ r. ⌜ filling (now (room .exit)) r ≡ puts (filling (now (room .entry)) spot) (cutBytes (strainedNode (knownKinds (now (kinds .entry)) (decisions truths decided)) (search (weight (tighten (now (g .entry)) (e .from) (e .to) (e .weight))) last))) ⌝ }
 {
-    let over = spot.over;
-    if over {
-        return spot;
-    }
     let t = known_so_far(kinds, truths, decided);
     match t {
         Truth::Fails => put(room, spot, 1),
-        Truth::Passes => put_search(room, spot, g, last, from, to, k),
-        Truth::Open => put_search(room, spot, g, last, from, to, k),
+        Truth::Passes => put_search(room, spot, g, last, e),
+        Truth::Open => put_search(room, spot, g, last, e),
     }
 }
 
@@ -119,18 +93,7 @@ fn with_truth(truths: [u8; 120], at: usize, d: u8) -> [u8; 120]
     more
 }
 
-// The formula is open: the closure's first row is the greatest solution.
-fn open(spot: Spot, near: &[[i64; 17]; 17]) -> Grown
-    ensures { λ r. ⌜ (r .open ≡ true) × (r .values ≡ row (now (near .entry)) 0) ⌝ }
-{
-    Grown {
-        open: true,
-        spot: spot,
-        values: near[0],
-    }
-}
-
-// Half of a branch: what one more fact comes to, an edge of weight k.
+// Half of a branch: what one more fact comes to. Past the room's end nothing more would be stored, so there is nothing to do.
 fn side(
     room: &mut [u8],
     spot: Spot,
@@ -143,21 +106,23 @@ fn side(
     truths: [u8; 120],
     g: &[[i64; 17]; 17],
     near: &[[i64; 17]; 17],
-    from: usize,
-    to: usize,
-    k: i64,
-) -> Grown
-    requires { ⌜ (length (now kinds) ≤ 320) × (undecided ≤ length (now most)) × Fact last from to k × Ready last (now left) (now right) (now most) (now g) (now near) ⌝ }
-    ensures { λ r. ⌜ ((F : Formula) → Lent (F .program) (now (kinds .entry)) (now (left .entry)) (now (right .entry)) (now (most .entry)) → Grows last (now (room .entry)) spot (sideBy last F (length (now (most .entry)) - undecided) truths (now (g .entry)) (now (near .entry)) from to k) (now (room .exit)) r) ⌝ }
+    e: Edge,
+) -> Spot
+    requires { ⌜ (length (now kinds) ≤ 320) × (undecided ≤ length (now most)) × Fact last (e .from) (e .to) (e .weight) × Ready last (now left) (now right) (now most) (now g) (now near) ⌝ }
+    ensures { λ r. ⌜ ((F : Formula) → Lent (F .program) (now (kinds .entry)) (now (left .entry)) (now (right .entry)) (now (most .entry)) → Grows (now (room .entry)) spot (sideBy last F (length (now (most .entry)) - undecided) truths (now (g .entry)) (now (near .entry)) (e .from) (e .to) (e .weight)) (now (room .exit)) r) ⌝ }
 {
-    let round = edge(near, to, from);
-    if round + k < 0 {
-        let decided = most.len() - undecided;
-        return shut(cut(room, spot, kinds, truths, decided, g, last, from, to, k));
+    let over = spot.over;
+    if over {
+        return spot;
     }
-    let facts = tighten(*g, from, to, k);
+    let round = edge(near, e.to, e.from);
+    if round + e.weight < 0 {
+        let decided = most.len() - undecided;
+        return cut(room, spot, kinds, truths, decided, g, last, e);
+    }
+    let facts = tighten(*g, e.from, e.to, e.weight);
     let mut closer = *near;
-    relax_in(&mut closer, last + 1, from, to, k);
+    relax_in(&mut closer, last + 1, e.from, e.to, e.weight);
     grow(
         room,
         spot,
@@ -173,7 +138,7 @@ fn side(
     )
 }
 
-// A node where no cycle is negative, and all below it.
+// A node where no cycle is negative, and all below it. Where the formula is open there is no tree, and what is stored means nothing.
 pub fn grow(
     room: &mut [u8],
     spot: Spot,
@@ -186,24 +151,24 @@ pub fn grow(
     truths: [u8; 120],
     g: &[[i64; 17]; 17],
     near: &[[i64; 17]; 17],
-) -> Grown
+) -> Spot
     requires { ⌜ (length (now kinds) ≤ 320) × (undecided ≤ length (now most)) × Ready last (now left) (now right) (now most) (now g) (now near) ⌝ }
-    ensures { λ r. ⌜ ((F : Formula) → Lent (F .program) (now (kinds .entry)) (now (left .entry)) (now (right .entry)) (now (most .entry)) → Grows last (now (room .entry)) spot (fastAt last F (length (now (most .entry)) - undecided) truths (now (g .entry)) (now (near .entry))) (now (room .exit)) r) ⌝ }
+    ensures { λ r. ⌜ ((F : Formula) → Lent (F .program) (now (kinds .entry)) (now (left .entry)) (now (right .entry)) (now (most .entry)) → Grows (now (room .entry)) spot (fastAt last F (length (now (most .entry)) - undecided) truths (now (g .entry)) (now (near .entry))) (now (room .exit)) r) ⌝ }
 {
     let decided = most.len() - undecided;
     let k = known_so_far(kinds, truths, decided);
     match k {
-        Truth::Fails => shut(put(room, spot, 1)),
-        Truth::Passes => open(spot, near),
+        Truth::Fails => put(room, spot, 1),
+        Truth::Passes => spot,
         Truth::Open => {
             if undecided == 0 {
-                return open(spot, near);
+                return spot;
             }
             let a = left[decided] as usize;
             let b = right[decided] as usize;
             let w = most[decided];
             let start = put(room, spot, 3);
-            let yes = side(
+            let next = side(
                 room,
                 start,
                 kinds,
@@ -215,15 +180,12 @@ pub fn grow(
                 with_truth(truths, decided, 1),
                 g,
                 near,
-                b,
-                a,
-                w,
+                Edge {
+                    from: b,
+                    to: a,
+                    weight: w,
+                },
             );
-            let o = yes.open;
-            if o {
-                return yes;
-            }
-            let next = yes.spot;
             side(
                 room,
                 next,
@@ -236,9 +198,11 @@ pub fn grow(
                 with_truth(truths, decided, 0),
                 g,
                 near,
-                a,
-                b,
-                negation(w),
+                Edge {
+                    from: a,
+                    to: b,
+                    weight: negation(w),
+                },
             )
         }
     }

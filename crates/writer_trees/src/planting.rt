@@ -1,11 +1,9 @@
 // A formula's tree from its root.
-use crate::growing::Grown;
 use crate::growing::grow;
 use crate::starting::near_start;
 use facts::start;
 use program::types::Formula;
 use room::Spot;
-ghost use lib.ListN.{length};
 ghost use Rattle.page_formulas.specs.Formulas as written;
 ghost use Rattle.program.specs.Compiled.{Compiled, Fine, Ranging, Plantable};
 ghost use Rattle.page_formulas.specs.Proper.{Proper};
@@ -27,9 +25,9 @@ pub fn plant(
     flags: [bool; 17],
     lo: [i64; 17],
     hi: [i64; 17],
-) -> Grown
+) -> Spot
     requires { ⌜ Plantable kinds n left right most few count flags lo hi ⌝ }
-    ensures { λ r. ⌜ ((F : written.Formula) → Coded F kinds n left right most few → Ranging (F .ranges) count flags lo hi → Proper F → Grows (length (F .ranges)) (now (room .entry)) spot (growTree lastVertex F) (now (room .exit)) r) ⌝ }
+    ensures { λ r. ⌜ ((F : written.Formula) → Coded F kinds n left right most few → Ranging (F .ranges) count flags lo hi → Proper F → Grows (now (room .entry)) spot (growTree lastVertex F) (now (room .exit)) r) ⌝ }
 {
     let facts = start(flags, lo, hi);
     let near = near_start(count, flags, lo, hi);
@@ -49,9 +47,9 @@ pub fn plant(
 }
 
 // The same of a compiled formula.
-pub fn plant_formula(room: &mut [u8], spot: Spot, f: Formula) -> Grown
+pub fn plant_formula(room: &mut [u8], spot: Spot, f: Formula) -> Spot
     requires { ⌜ Fine f ⌝ }
-    ensures { λ r. ⌜ ((F : written.Formula) → Compiled f F → Proper F → Grows (length (F .ranges)) (now (room .entry)) spot (growTree lastVertex F) (now (room .exit)) r) ⌝ }
+    ensures { λ r. ⌜ ((F : written.Formula) → Compiled f F → Proper F → Grows (now (room .entry)) spot (growTree lastVertex F) (now (room .exit)) r) ⌝ }
 {
     let p = f.program;
     let v = f.vertices;

@@ -1,16 +1,9 @@
 use mathlib.Core.Path.{sym, ap, _∙_}
-use denote.Ref.{now}
-use mir.Facts.{toZ-ofZ}
 use Rattle.truth.specs.Cells.{threeOf}
-use Rattle.room.specs.Room.{filling}
-use Rattle.room.proofs.Puts.{puts-over}
 use Rattle.writer_trees.proofs.Growths.{cut-false, cut-true, cut-open}
 use borrow.Author.Needs.{needs}
 use Rattle.writer_trees.proofs.growing.cut.Statement.{statement}
 use Rattle.writer_trees.proofs.growing.cut.Tie as tie
-
-returns : tie.Need-returns
-returns c = let a = c .before .before .before .args in sym (puts-over (filling (now (a .room)) (a .spot)) _ (c .if1 .taken))
 
 known-so-far-requires : tie.Need-known-so-far-requires
 known-so-far-requires c κs = search needs
@@ -36,26 +29,25 @@ put-search-requires-2 c κs = search needs
 same-length : tie.Need-same-length
 same-length c = search needs
 
-returns-2 : tie.Need-returns-2
-returns-2 c = cut-false _ _ _ _ (sym (c .before .before .before .before .before .before .known-so-far .ensures) ∙ ap threeOf (c .before .before .before .before .enum-told .given .1)) (c .before .before .put .ensures)
+returns : tie.Need-returns
+returns c = cut-false _ _ _ _ (sym (c .before .before .before .before .before .before .known-so-far .ensures) ∙ ap threeOf (c .before .before .before .before .enum-told .given .1)) (c .before .before .put .ensures)
 
 same-length-2 : tie.Need-same-length-2
 same-length-2 c = search needs
 
-returns-3 : tie.Need-returns-3
-returns-3 c = cut-true _ _ _ _ (sym (c .before .before .before .before .before .before .known-so-far .ensures) ∙ ap threeOf (c .before .before .before .before .enum-told2 .given .1)) (simp (toZ-ofZ, c .before .before .before .before .before .before .before .before .before .before .fits .k) at (c .before .before .put-search .ensures))
+returns-2 : tie.Need-returns-2
+returns-2 c = cut-true _ _ _ _ (sym (c .before .before .before .before .before .before .known-so-far .ensures) ∙ ap threeOf (c .before .before .before .before .enum-told2 .given .1)) (c .before .before .put-search .ensures)
 
 same-length-3 : tie.Need-same-length-3
 same-length-3 c = search needs
 
-returns-4 : tie.Need-returns-4
-returns-4 c = cut-open _ _ _ _ (sym (c .before .before .before .before .before .before .known-so-far .ensures) ∙ ap threeOf (c .before .before .before .before .enum-told3 .given .1)) (simp (toZ-ofZ, c .before .before .before .before .before .before .before .before .before .before .fits .k) at (c .before .before .put-search2 .ensures))
+returns-3 : tie.Need-returns-3
+returns-3 c = cut-open _ _ _ _ (sym (c .before .before .before .before .before .before .known-so-far .ensures) ∙ ap threeOf (c .before .before .before .before .enum-told3 .given .1)) (c .before .before .put-search2 .ensures)
 
 pub cut-spec : {M : Type 1} → statement M
 cut-spec =
     tie.close
     (tie.spec
-    returns
     known-so-far-requires
     enum-told
     put-requires
@@ -64,8 +56,8 @@ cut-spec =
     enum-told-3
     put-search-requires-2
     same-length
-    returns-2
+    returns
     same-length-2
-    returns-3
+    returns-2
     same-length-3
-    returns-4)
+    returns-3)

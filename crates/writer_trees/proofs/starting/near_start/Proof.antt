@@ -7,7 +7,7 @@ use mir.Syntax.{w64}
 use mir.Val.{SFits}
 use lib.IntN.{pos, _-ℤ_, +ℤ-idl}
 use Rattle.program.specs.Compiled.{Ranged}
-use Rattle.writer_trees.proofs.Starts.{Going, going-start, going-within, hi-bounded, lo-bounded, hi-fits, lo-fits, lower-fits, first-within, going-there, going-none, going-end}
+use Rattle.writer_trees.proofs.Starts.{Going, going-start, going-within, hi-bounded, lo-bounded, hi-fits, lo-fits, lower-fits, first-within, first-triangle, going-there, going-none, going-end}
 use Rattle.writer_trees.proofs.starting.near_start.Statement.{statement}
 use Rattle.writer_trees.proofs.starting.near_start.Tie as tie
 
@@ -40,7 +40,7 @@ relax-requires c κs =
     let g = at .inv (s .pre) in
     let h = c .before .before .loop-test .taken in
     let e = c .before .if1 .taken in
-    ((s .pre .few, s .pre .some-vertex, h), (hi-bounded _ _ _ _ (s .pre) (at .v) (at .near) g h e _ (toZ-ofZ {w = w64} (hi-fits _ _ _ _ (s .pre) (at .v) (at .near) g h e)), going-within _ _ _ _ (s .pre) (at .v) (at .near) g))
+    ((s .pre .few, s .pre .some-vertex, h), (hi-bounded _ _ _ _ (s .pre) (at .v) (at .near) g h e _ (toZ-ofZ {w = w64} (hi-fits _ _ _ _ (s .pre) (at .v) (at .near) g h e)), (going-within _ _ _ _ (s .pre) (at .v) (at .near) g, g .closed .triangle)))
 
 mul-difference : tie.Need-mul-difference Inv-loop μ-loop
 mul-difference c = search needs
@@ -64,7 +64,7 @@ relax-requires-2 c κs =
     let g = at .inv (s .pre) in
     let h = c .before .before .before .before .before .loop-test .taken in
     let e = c .before .before .before .before .if1 .taken in
-    ((s .pre .few, h, s .pre .some-vertex), (lo-bounded _ _ _ _ (s .pre) (at .v) (at .near) g h e _ (toZ-ofZ {w = w64} (record { sfits = c .difference .ok }) ∙ c .difference .ensures ∙ ap (λ z. pos 0 -ℤ z) (toZ-ofZ {w = w64} (lo-fits _ _ _ _ (s .pre) (at .v) (at .near) g h e)) ∙ +ℤ-idl _), first-within _ _ _ _ (s .pre) (at .v) (at .near) g h e _ _ (toZ-ofZ {w = w64} (hi-fits _ _ _ _ (s .pre) (at .v) (at .near) g h e)) (c .before .before .relax .ensures)))
+    ((s .pre .few, h, s .pre .some-vertex), (lo-bounded _ _ _ _ (s .pre) (at .v) (at .near) g h e _ (toZ-ofZ {w = w64} (record { sfits = c .difference .ok }) ∙ c .difference .ensures ∙ ap (λ z. pos 0 -ℤ z) (toZ-ofZ {w = w64} (lo-fits _ _ _ _ (s .pre) (at .v) (at .near) g h e)) ∙ +ℤ-idl _), (first-within _ _ _ _ (s .pre) (at .v) (at .near) g h e _ _ (toZ-ofZ {w = w64} (hi-fits _ _ _ _ (s .pre) (at .v) (at .near) g h e)) (c .before .before .relax .ensures), first-triangle _ _ _ _ (s .pre) (at .v) (at .near) g h e _ _ (toZ-ofZ {w = w64} (hi-fits _ _ _ _ (s .pre) (at .v) (at .near) g h e)) (c .before .before .relax .ensures))))
 
 add-v : tie.Need-add-v Inv-loop μ-loop
 add-v c = search needs

@@ -1,0 +1,67 @@
+// Both kinds of sheet, from the start of the room on, as far as they fit.
+use formula::formulas::formula;
+use formula::formulas::formula_count;
+use question::types::Question;
+use room::Spot;
+use room::put_all;
+use writer_rows::showing::put_refutation;
+use writer_trees::descending::first_leaf;
+use writer_trees::planting::plant_formula;
+ghost use mathlib.Core.Path.{_≡_};
+ghost use mathlib.Core.List.{List, [], _∷_};
+ghost use Rattle.question.specs.Held.{Held, questionOf};
+ghost use Rattle.page_questions.specs.Accepted.{Accepted};
+ghost use Rattle.page_sheets.specs.Sheet.{findingOf, sheetOf};
+ghost use Rattle.page_sheets.specs.Tree.{Tree};
+ghost use Rattle.page_sheets.specs.Trees.{allShut, bytesAll};
+ghost use Rattle.room.specs.Room.{filling, puts};
+ghost use Rattle.writer.specs.Laying.{atStart, AllShut, OpenFirst};
+
+// Mark, version, asked, verdict, from the start.
+fn put_header(room: &mut [u8], asked: u8, verdict: u8) -> Spot
+    ensures { λ r. ⌜ filling (now (room .exit)) r ≡ puts (filling (now (room .entry)) atStart) (86 ∷ 85 ∷ 83 ∷ 1 ∷ 0 ∷ asked ∷ verdict ∷ []) ⌝ }
+{
+    let head = [86u8, 85, 83, 1, 0, asked, verdict];
+    put_all(room, Spot { at: 0, over: false }, &head)
+}
+
+// Every formula's tree, one after another. Every tree is shut, so a byte that found no room ends the work.
+fn put_trees(room: &mut [u8], spot: Spot, q: Question, asked: u8) -> Spot
+    requires { ⌜ Held q × Accepted (questionOf q) × AllShut (questionOf q) asked ⌝ }
+    ensures { λ r. ⌜ ((ts : List Tree) → findingOf (questionOf q) asked ≡ allShut ts → filling (now (room .exit)) r ≡ puts (filling (now (room .entry)) spot) (bytesAll ts)) ⌝ }
+{
+    let n = formula_count(q, asked);
+    let mut next = spot;
+    let mut i: usize = 0;
+    while i < n {
+        let over = next.over;
+        if over {
+            return next;
+        }
+        let f = formula(q, asked, i);
+        next = plant_formula(room, next, f);
+        i += 1;
+    }
+    next
+}
+
+// Where no formula is open.
+pub fn put_yes(room: &mut [u8], q: Question, asked: u8) -> Spot
+    requires { ⌜ Held q × Accepted (questionOf q) × AllShut (questionOf q) asked ⌝ }
+    ensures { λ r. ⌜ filling (now (room .exit)) r ≡ puts (filling (now (room .entry)) atStart) (sheetOf (questionOf q) asked) ⌝ }
+{
+    let start = put_header(room, asked, 0);
+    put_trees(room, start, q, asked)
+}
+
+// Where this formula is the first that is open: the rows of its first open leaf.
+pub fn put_no(room: &mut [u8], q: Question, asked: u8, number: usize) -> Spot
+    requires { ⌜ Held q × Accepted (questionOf q) × OpenFirst (questionOf q) asked number ⌝ }
+    ensures { λ r. ⌜ filling (now (room .exit)) r ≡ puts (filling (now (room .entry)) atStart) (sheetOf (questionOf q) asked) ⌝ }
+{
+    let start = put_header(room, asked, 1);
+    let f = formula(q, asked, number);
+    let pairs = f.pairs;
+    let values = first_leaf(f);
+    put_refutation(room, start, q, number as u8, pairs, values)
+}
