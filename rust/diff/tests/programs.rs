@@ -1,7 +1,7 @@
 //! The programs on the recorded questions, as processes of their own.
 
 use diff::machine::command;
-use oracle::examples::{recorded, Recorded};
+use oracle::examples::{hard, recorded, Recorded};
 use oracle::hex;
 use std::io::Write;
 use std::path::{Path, PathBuf};
@@ -23,6 +23,14 @@ fn run(name: &str, words: &[&Path], input: &[u8]) -> String {
 #[test]
 fn ask_answers_the_recorded_questions() {
     for Recorded { question, printed, .. } in recorded() {
+        assert_eq!(run("ask", &[], &question), printed, "{}", hex(&question));
+    }
+}
+
+/// Every twentieth one: among them verdicts of both sorts, and sheets with no room.
+#[test]
+fn ask_answers_hard_questions() {
+    for Recorded { question, printed, .. } in hard().into_iter().step_by(20) {
         assert_eq!(run("ask", &[], &question), printed, "{}", hex(&question));
     }
 }
