@@ -1,4 +1,4 @@
-// "Order: 20, then the question".
+// FORMAT 4.4: 20 first, then the question.
 use question::types::Reading;
 use reader::read;
 use reader::reader::refusal;

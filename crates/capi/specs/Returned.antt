@@ -13,7 +13,7 @@ pub record Returned : Type 0 where
 abbrev pub leaves : ℕ → ℕ → ℕ → Returned
 leaves number verdict place = record { number = number; verdict = verdict; place = place }
 
--- "Returns 0: *verdict is VU_YES or VU_NO, *place is 0"; "Otherwise: *verdict is VU_NO_VERDICT, *place is the refusal's place"
+-- 0 with the verdict's byte and place 0; or the refusal's number, VU_NO_VERDICT and its place
 abbrev pub answer : Answer → Returned
 answer (says v) = leaves 0 (verdictByte v) 0
 answer (refusal n p) = leaves n 255 p
@@ -26,7 +26,7 @@ pub record Filled : Type 0 where
 abbrev pub leavesRoom : ℕ → ℕ → ℕ → List ℕ → Filled
 leavesRoom number verdict place room = record { returned = leaves number verdict place; room = room }
 
--- "Returns 0: .. *length_or_place is the sheet's length"
+-- the same, with the sheet's length where there is one
 abbrev pub writing : Written → Returned
 writing (wrote v n) = leaves 0 (verdictByte v) n
 writing (unwritten n p) = leaves n 255 p

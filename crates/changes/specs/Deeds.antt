@@ -1,4 +1,4 @@
--- cut from Pieces
+-- What the reader's results for inserted rows, modes and changes mean.
 use Prim.Native.Nat.{ℕ}
 use mathlib.Core.Bool.{cond}
 use mathlib.Core.Path.{_≡_}
@@ -26,11 +26,11 @@ abbrev pub lineBy : Answer → ℕ → Row → ℕ → Outcome (At M.Values)
 lineBy Good width r q = found (rowOf width r) q
 lineBy (Refused m p) width r q = bad m p
 
--- a row was read, and o is what 01 gives for it
+-- a row was read, and o is what the definition gives for it
 pub record LineRead (width : ℕ) (r : Line) (o : Outcome (At M.Values)) : Type 0 where
   pub meaning : lineBy (r .answer) width (r .row) (r .next) ≡ o
 
--- n rows were read, and o is what 01 gives for them
+-- n rows were read, and o is what the definition gives for them
 pub record LinesRead (width n : ℕ) (r : Lines) (o : Outcome (At (List M.Values))) : Type 0 where
   pub meaning : listOf (rowOf width) (r .answer) n (r .rows) (r .next) ≡ o
 
@@ -51,7 +51,7 @@ operandsAt s n low high m lo hi p =
     andThen (int s m lo hi p) λ k p.
     found (record { column = j; constant = k }) p
 
--- "mode (0 keep, 1 constant, 2 column plus constant)"
+-- a mode by its number (FORMAT 3.4)
 abbrev pub modeNamed : ℕ → ℕ → ℤ → M.Mode
 modeNamed m j k = cond (eqb m 0) M.keep (cond (eqb m 1) (M.become k) (M.shift j k))
 
@@ -66,7 +66,7 @@ choiceOf (choice.Not n p) = bad n p
 unfoldable pub choiceAt : List ℕ → ℕ → ℕ → ℕ → ℕ → Outcome (At M.Mode)
 choiceAt s low high m p = cond (eqb m 0) (keepAt s p) (cond (eqb m 1) (becomeAt s p) (shiftAt s low high p))
 
--- n settings were read, and o is what 01 gives for them
+-- n settings were read, and o is what the definition gives for them
 pub record SettingsRead (n : ℕ) (r : Settings) (o : Outcome (At (List M.Mode))) : Type 0 where
   pub meaning : listOf settingOf (r .answer) n (r .settings) (r .next) ≡ o
 
@@ -76,7 +76,7 @@ abbrev pub deedBy : Answer → ℕ → Change → ℕ → Outcome (At M.Change)
 deedBy Good width ch q = found (changeOf width ch) q
 deedBy (Refused m p) width ch q = bad m p
 
--- a change of a table of so many columns was read, and o is what 01 gives for it
+-- a change of a table of so many columns was read, and o is what the definition gives for it
 pub record DeedRead (width : ℕ) (r : Deed) (o : Outcome (At M.Change)) : Type 0 where
   pub meaning : deedBy (r .answer) width (r .change) (r .next) ≡ o
   pub held : ChangeHeld (r .change)

@@ -6,7 +6,7 @@ use lib.Dec.{eqb, leb}
 use Rattle.page_meaning.specs.Contents.{Question}
 use Rattle.page_sheets.specs.Sheet.{Answer, field, checkBody}
 
--- "asked (1 or 2, as the caller asked); verdict (0 yes, 1 no)"
+-- FORMAT 8.1: asked as the caller asked, then the verdict
 abbrev pub fromAsked : Question → ℕ → List ℕ → Answer
 fromAsked q a s =
     field s 5 1 (eqb (getD s 5 0) a) 14

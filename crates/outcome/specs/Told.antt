@@ -1,4 +1,4 @@
--- This paper's number and values for each case of the answers.
+-- The number and the values of each case of the answers (FORMAT 4.4, 4.5).
 use Prim.Native.Nat.{ℕ}
 use mathlib.Core.List.{List}
 use Rattle.outcome.specs.declared.Verdict.{Verdict}

@@ -1,4 +1,4 @@
--- Programs worked out by computation: 01's KEY and CLIENT, K = Q and V ≥ 10, K and N visible; changes of KEY.
+-- Programs worked out by computation, of the list of FORMAT 9.1.
 use Prim.Native.Nat.{ℕ}
 use mathlib.Core.Path.{_≡_, refl}
 use mathlib.Core.Bool.{false}
@@ -28,13 +28,13 @@ asking ch = record {
 abbrev at : ℕ → ℕ → ℤ → Instr
 at left right most = place (record { left = left; right = right; most = most })
 
--- case a, insert (3,9): "two constants give an edge from 0 to itself"
+-- case a, insert (3,9): two constant sides give a place from 0 to 0
 case-a : formulas (asking (insert ((pos 3 ∷ pos 9 ∷ []) ∷ []))) 1
     ≡ record { ranges = some (upTo 9) ∷ some (upTo 30) ∷ some (upTo 9) ∷ some (upTo 9) ∷ []; pairs = false; program = at 0 4 (negsuc 2) ∷ at 4 0 (pos 3) ∷ andI ∷ at 0 0 (negsuc 0) ∷ andI ∷ [] } ∷ []
 unfolding compile after
 case-a = refl
 
--- case j, V := V−8 where V ≥ 10: "its condition, then for each column not kept, in order, new ≤ hi and new ≥ lo"
+-- case j, V := V−8 where V ≥ 10: the condition, then both range tests of the one column that isn't kept
 abbrev where10 : Condition
 where10 = compare atLeast 1 (constant (pos 10)) ∷ []
 

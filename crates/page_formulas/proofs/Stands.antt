@@ -74,7 +74,7 @@ module _ (q : Question) where
     λ n ρ r. let b = back2 f F a k ρ r in b .truth-is ∙ to-false (f (look (rowOf1 q ρ)) (look (rowOf2 q ρ))) (λ t. n (rowOf1 q ρ, rowOf2 q ρ, b .fits1, b .fits2, b .share, t)),
   )
 
-  -- "The verdict is yes exactly if every formula fails on all rows in range"
+  -- FORMAT 5.1: yes exactly if every formula is false for all rows in range
   never-all : Usable q → (φs : List trouble.Formula) (Fs : List Formula) → AgreeAll q φs Fs → Every Never Fs ↔ AllFail q φs
   never-all k [] [] a = (λ n. tt, λ n. tt)
   never-all k [] (F ∷ Fs) a = absurd a

@@ -1,18 +1,18 @@
--- Comparisons and conditions as programs (01, Trouble lists). A sight says which term stands for a column.
+-- FORMAT 5.5: comparisons and conditions as programs. A sight says which term stands for a column.
 use Prim.Native.Nat.{ℕ}
 use mathlib.Core.List.{[], _∷_, _++_}
 use lib.IntN.{ℤ, negsuc, _+ℤ_, _-ℤ_}
 use Rattle.page_meaning.specs.Condition.{Op, less, atMost, equal, atLeast, more, unequal, Side, constant, column, Token, compare, both, either, negate, Condition}
 use Rattle.page_formulas.specs.Program.{Term, Place, place, andI, orI, notI, Program}
 
--- "Each comparison becomes a − b ≤ k over vertices": l ≤ r, and l < r "by the integers"
+-- FORMAT 5.5: l ≤ r as a place; l < r too, with one less
 abbrev pub atMostPlace : Term → Term → Place
 atMostPlace l r = record { left = l .vertex; right = r .vertex; most = r .offset -ℤ l .offset }
 
 abbrev pub belowPlace : Term → Term → Place
 belowPlace l r = record { left = l .vertex; right = r .vertex; most = (r .offset -ℤ l .offset) +ℤ negsuc 0 }
 
--- "< and > are one ≤ place each, by the integers; = is ≤ and then ≥; ≠ is not ="
+-- FORMAT 5.5: = is ≤ and then ≥, ≠ is not =
 abbrev pub comparison : Op → Term → Term → Program
 comparison less l r = place (belowPlace l r) ∷ []
 comparison atMost l r = place (atMostPlace l r) ∷ []
@@ -24,7 +24,7 @@ comparison unequal l r = place (atMostPlace l r) ∷ place (atMostPlace r l) ∷
 abbrev pub Sight : Type 0
 Sight = ℕ → Term
 
--- "A constant side uses vertex 0"
+-- FORMAT 5.5: a constant is vertex 0 plus it
 abbrev pub constantTerm : ℤ → Term
 constantTerm k = record { vertex = 0; offset = k }
 

@@ -1,4 +1,4 @@
--- What the places decided so far say of a formula (01, Bytes of a sheet, node 1): Kleene's three values.
+-- FORMAT 7.1: what the places decided so far say of a formula, in Kleene's three values.
 -- Places are decided in order, so the decisions are a prefix: one for each of the first places.
 use mathlib.Core.Bool.{Bool, true, false}
 use mathlib.Core.List.{List, [], _∷_}

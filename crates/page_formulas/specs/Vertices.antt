@@ -1,4 +1,4 @@
--- The vertices of a formula and their ranges (01, Trouble lists): "0 is the constant zero", a vertex of a column has the column's range.
+-- FORMAT 5.4: the vertices of a formula and their ranges. Vertex 0 is zero; a vertex of a column has the column's range.
 use Prim.Native.Nat.{ℕ, zero, suc}
 use mathlib.Core.Path.{_≡_}
 use mathlib.Core.Bool.{Bool, true, false}

@@ -1,5 +1,5 @@
--- 01: "The verdict is yes exactly if every formula fails on all rows in range. That this agrees with the definition over contents is to
--- be proved." It is, for every family of contents that has in it all contents with at most one row a table.
+-- FORMAT 5.1: the verdict by formulas agrees with the meaning of FORMAT 1.6. It is proved for every family of contents that has in it all
+-- contents with at most one row a table.
 use mathlib.Core.Logic.{_↔_}
 use mathlib.Core.List.{List, [], _∷_}
 use Rattle.page_meaning.specs.Contents.{Question, Change, insert, delete, modify, Contents, Valid, Family, IrrelevantIn, ComputableIn, Irrelevant, Computable}

@@ -1,4 +1,4 @@
--- "Plausible shortcuts that are wrong": those that speak of contents, shown wrong by our definitions.
+-- FORMAT 9.5: the shortcuts that concern contents, shown wrong by our definitions.
 use native.Mathlib.Omega.{arith}
 use mathlib.Core.Logic.{inl, inr}
 use mathlib.Core.Bool.{Bool, true, false, not, _&&_, _||_}
@@ -17,7 +17,7 @@ use Rattle.page_meaning.proofs.Truth.{or-l, or-r, parts}
 use Rattle.page_meaning.proofs.Tables.{only}
 use Rattle.page_meaning.proofs.Agree.{relevant, irrelevant-agrees, computable-agrees}
 
--- ---- "One row in the changed table when showing an insert: the list may then not change"
+-- ---- an insert shown beside a row of the changed table: the list does not change
 
 three : (r : Values) → r ∈ ((pos 3 ∷ pos 10 ∷ []) ∷ []) → T (fits keys r)
 unfolding inRange
@@ -35,7 +35,7 @@ insert-not-shown v = (
   λ t. (t .0, record { before = t .1 .before; here = elim (t .1 .here) [ inl e ↦ inl e | inr h ↦ h ]; after = t .1 .after }, t .2),
 )
 
--- ---- "Asking for visible columns alone: g is computable with V hidden"
+-- ---- visible columns alone: g is computable though V is hidden
 
 hidden-computable : Computable hidden
 unfolding meets run
@@ -44,7 +44,7 @@ hidden-computable = computable-agrees hidden (omega arith) .0 (
   tt,
 )
 
--- ---- "Leaving out the ranges: delete V > 30 would"
+-- ---- without the ranges delete V > 30 would not be irrelevant
 
 -- V, of values in range
 below : (u : Values) → T (fits (columns tooHigh) u) → T (leZ (look u 1) (pos 30))
@@ -65,7 +65,7 @@ tooHigh-unranged : T (C tooHigh (look (vals 9 31 9 9)) && meets (compare more 1 
 unfolding meets run
 tooHigh-unranged = tt
 
--- ---- "Leaving out the test of new values: k would come out relevant"
+-- ---- without the test of new values k would not be irrelevant
 
 stuck : (u : Values) → T (fits (columns tooLow) u) → ¬ T (moves tooLow (aboveV 10) lower (look u))
 unfolding newFits inRange
@@ -89,7 +89,7 @@ tooLow-untested : T (fits (columns tooLow) (vals 9 30 9 9)) × T (meets (aboveV 
 unfolding inRange meets run moved
 tooLow-untested = (tt, tt)
 
--- ---- "Properties 3', 4' and 5' of document 000 as the test: they suffice only"; the example "is computable though V is hidden"
+-- ---- the properties 3', 4' and 5' of TR 235 are enough, but not needed: an example that is computable though V is hidden
 
 -- the last formula: K = 3 or (K = 5 and V ≥ 20), not so with another V, and K ≠ 5
 never-mixed : (p l r x z : Bool) → T ((p || (l && r) && x) && true) → T (not ((p || (l && r) && z) && true)) → T (not (r && l) || false) → ⊥

@@ -1,4 +1,4 @@
--- Lists, contents and changes: "the definitions over contents below decide over every shortcut".
+-- FORMAT 1: lists, contents and changes, and what the two verdicts mean. Formulas and sheets are proved to agree with this.
 use Prim.Native.Nat.{ℕ}
 use mathlib.Core.Path.{_≡_}
 use mathlib.Core.Logic.{_↔_, _⊎_}
@@ -20,7 +20,7 @@ Values = List ℤ
 abbrev pub look : Values → Row
 look vs i = getD vs i (pos 0)
 
--- "Tables are sets": a list of rows stands for the set of its members
+-- FORMAT 1.3: tables are sets, so a list of rows stands for the set of its members
 infix 40 _∈_
 abbrev pub _∈_ : Values → List Values → Type 0
 a ∈ [] = ⊥
@@ -33,7 +33,7 @@ each g (r ∷ rs) = g r ++ each g rs
 
 -- ---- questions
 
--- "A column has a range lo..hi"
+-- FORMAT 1.2: a column's range
 pub record Range : Type 0 where
   pub lo : ℤ
   pub hi : ℤ
@@ -46,31 +46,31 @@ inRange g x = leZ x (g .hi) && leZ (g .lo) x
 abbrev pub Table : Type 0
 Table = List Range
 
--- the columns of some tables, "numbered from 0 in table order"
+-- FORMAT 1.1: the columns of some tables, counted through
 abbrev pub columnsOf : List Table → List Range
 columnsOf [] = []
 columnsOf (t ∷ ts) = t ++ columnsOf ts
 
--- a value for each column, "every value in range"
+-- a value for each column, in its range
 abbrev pub fits : List Range → Values → Bool
 fits [] [] = true
 fits [] (v ∷ vs) = false
 fits (g ∷ gs) [] = false
 fits (g ∷ gs) (v ∷ vs) = inRange g v && fits gs vs
 
--- "Each column keeps its value, becomes a constant, or becomes a column of the same table plus a constant"
+-- FORMAT 1.5: what a modify does with a column
 pub data Mode : Type 0 where
   keep : Mode
   become : ℤ → Mode
   shift : ℕ → ℤ → Mode
 
--- "change kind (1 insert, 2 delete, 3 modify)": the rows; the condition; the condition and a mode for each column
+-- FORMAT 1.5: the rows; the condition; the condition and a mode for each column of the changed table
 pub data Change : Type 0 where
   insert : List Values → Change
   delete : Condition → Change
   modify : Condition → List Mode → Change
 
--- "A question holds one list definition and one change": the tables before the changed one, the changed one, those after it; the visible
+-- A list definition and a change: the tables before the changed one, the changed one, those after it; the visible
 -- columns in order; the condition C; the change. Column numbers run over all tables, also in the change
 pub record Question : Type 0 where
   pub front : List Table
@@ -90,13 +90,13 @@ first q = length (columnsOf (q .front))
 
 -- ---- contents
 
--- "Contents give each table a finite set of rows"
+-- FORMAT 1.3: rows for each table
 pub record Contents : Type 0 where
   pub front : List (List Values)
   pub changed : List Values
   pub back : List (List Values)
 
--- rows of one table, "every value in range"
+-- FORMAT 1.3: rows of one table, every value in its range
 abbrev pub TableFits : Table → List Values → Type 0
 TableFits t rows = (r : Values) → r ∈ rows → T (fits t r)
 
@@ -120,7 +120,7 @@ abbrev pub Joined : List (List Values) → Values → Type 0
 Joined [] s = s ≡ []
 Joined (rs ∷ rss) s = (r : Values) × (t : Values) × (r ∈ rs) × Joined rss t × (s ≡ r ++ t)
 
--- "A full row is one row of each table side by side": before, in and after the changed table
+-- FORMAT 1.4: a full row, in three parts: before, in and after the changed table
 pub record Full : Type 0 where
   pub before : Values
   pub here : Values
@@ -140,15 +140,15 @@ pub record Within (c : Contents) (x : Full) : Type 0 where
   pub here : x .here ∈ c .changed
   pub after : Joined (c .back) (x .after)
 
--- "visible parts (in column order)"
+-- FORMAT 1.4: the visible part
 unfoldable pub part : Question → Row → Values
 part q r = map r (q .visible)
 
--- ".. that meet the list's condition C; such a row shows its part"
+-- FORMAT 1.4: a row that meets C shows its visible part
 abbrev pub Shows : Question → Row → Values → Type 0
 Shows q r v = T (meets (q .condition) r) × (part q r ≡ v)
 
--- "The list is the set of visible parts of the full rows that meet the list's condition C": is v one of them
+-- FORMAT 1.4: the list; v is in it if some full row shows v
 abbrev pub Listed : Question → Contents → Values → Type 0
 Listed q c v = (x : Full) × Within c x × Shows q (row x) v
 
@@ -158,7 +158,7 @@ Listed q c v = (x : Full) × Within c x × Shows q (row x) v
 abbrev pub place : Question → Values → Row
 place q r = look (replicate (first q) (pos 0) ++ r)
 
--- "keeps its value, becomes a constant, or becomes a column of the same table plus a constant"
+-- FORMAT 1.5: a column's new value, by its mode
 abbrev pub newValue : Mode → Row → ℤ → ℤ
 newValue keep r old = old
 newValue (become k) r old = k
@@ -170,18 +170,18 @@ newValues [] vs r = vs
 newValues (m ∷ ms) [] r = []
 newValues (m ∷ ms) (v ∷ vs) r = newValue m r v ∷ newValues ms vs r
 
--- "All new values come from the old row"
+-- FORMAT 1.5: all new values are worked out from the row as it was
 abbrev pub newRow : Question → List Mode → Values → Values
 newRow q ms r = newValues ms r (place q r)
 
--- What is left of one row. "Delete removes its rows that meet a condition". "Modify takes each row that meets such a condition and whose
--- new values all lie in range, and replaces it. A selected row with a new value out of range stays as it is"
+-- FORMAT 1.5: what is left of one row. A delete leaves nothing of a row that meets its condition; a modify leaves the new row of one that
+-- meets its condition if all new values are in range, else the row as it was
 abbrev pub left : Question → Change → Values → List Values
 left q (insert new) r = r ∷ []
 left q (delete d) r = cond (meets d (place q r)) [] (r ∷ [])
 left q (modify d ms) r = cond (meets d (place q r)) (cond (fits (q .changed) (newRow q ms r)) (newRow q ms r ∷ []) (r ∷ [])) (r ∷ [])
 
--- "Insert adds 0 to 4 rows to the changed table"
+-- FORMAT 1.5: the rows that an insert adds
 abbrev pub added : Change → List Values
 added (insert new) = new
 added (delete d) = []
@@ -220,10 +220,10 @@ IrrelevantIn W q = (c : Contents) → W c → Unchanged q c
 abbrev pub ComputableIn : Family → Question → Type 0
 ComputableIn W q = (c d : Contents) → W c → W d → Alike q c d
 
--- "irrelevant or not": every contents give the same list before and after
+-- FORMAT 1.6: whatever the contents, the list is the same before and after
 abbrev pub Irrelevant : Question → Type 0
 Irrelevant q = IrrelevantIn (Valid q) q
 
--- "computable or not": any two contents with equal lists before have equal lists after, so the old list alone tells the new one
+-- FORMAT 1.6: any two contents with equal lists before have equal lists after, so the old list alone tells the new one
 abbrev pub Computable : Question → Type 0
 Computable q = ComputableIn (Valid q) q

@@ -7,7 +7,7 @@ use lib.ListN.{length}
 use Rattle.page_meaning.specs.Condition.{Condition, Token, compare, both, either, negate, Side, constant, column}
 use Rattle.page_meaning.specs.Contents.{Question, Change, insert, delete, modify, Mode, keep, become, shift, first, TableFits}
 
--- "a column .. of the changed table"
+-- i is a column of the changed table
 abbrev pub Mine : Question → ℕ → Type 0
 Mine q i = (first q ≤ i) × (i < first q + length (q .changed))
 
@@ -33,8 +33,8 @@ Reads P (keep ∷ ms) = Reads P ms
 Reads P (become k ∷ ms) = Reads P ms
 Reads P (shift j k ∷ ms) = P j × Reads P ms
 
--- "an inserted value out of range" and "a column .. not of the changed table where that is asked" were refused; modes come "for each column of
--- the changed table"
+-- FORMAT 3.4: inserted values are in range, the change's columns are the changed table's, and each of these has a mode. The reader refuses
+-- everything else (FORMAT 4.3, 5 and 7)
 abbrev pub ChangeOk : Question → Change → Type 0
 ChangeOk q (insert new) = TableFits (q .changed) new
 ChangeOk q (delete d) = Uses (Mine q) d

@@ -1,5 +1,4 @@
--- "Contents meant: one row a table from these values; for insert the changed table is empty; where asked 2 has a one-row formula, the
--- second contents are all empty."
+-- FORMAT 6.4: the contents that the rows of a no sheet stand for.
 use Prim.Native.Nat.{_≤_}
 use mathlib.Core.List.{List, [], _∷_}
 use lib.ListN.{length, take, drop}
@@ -10,7 +9,7 @@ use Rattle.page_meaning.specs.Trouble.{Formula, one, two, Met}
 unfoldable pub cut : Question → Values → Full
 cut q u = record { before = take (first q) u; here = take (length (q .changed)) (drop (first q) u); after = drop (length (q .changed)) (drop (first q) u) }
 
--- "one row a table from these values"
+-- one row in each table, from these values
 unfoldable pub alone : List Table → Values → List (List Values)
 alone [] s = []
 alone (t ∷ ts) s = (take (length t) s ∷ []) ∷ alone ts (drop (length t) s)
@@ -20,7 +19,7 @@ unfoldable pub none : List Table → List (List Values)
 none [] = []
 none (t ∷ ts) = [] ∷ none ts
 
--- "for insert the changed table is empty"
+-- the row in the changed table; none for an insert
 abbrev pub hereOf : Change → Values → List Values
 hereOf (insert new) r = []
 hereOf (delete d) r = r ∷ []
@@ -30,11 +29,11 @@ hereOf (modify d ms) r = r ∷ []
 abbrev pub contentsOf : Question → List Values → Full → Contents
 contentsOf q rows x = record { front = alone (q .front) (x .before); changed = rows; back = alone (q .back) (x .after) }
 
--- "Contents meant"
+-- the contents that one row stands for
 abbrev pub witness : Question → Change → Values → Contents
 witness q ch u = contentsOf q (hereOf ch (cut q u .here)) (cut q u)
 
--- "all empty"
+-- no row in any table
 abbrev pub empty : Question → Contents
 empty q = record { front = none (q .front); changed = []; back = none (q .back) }
 
@@ -43,7 +42,7 @@ abbrev pub firstOf : (q : Question) (ch : Change) (φ : Formula) → Met q φ �
 firstOf q ch (one f) m = witness q ch (m .0)
 firstOf q ch (two f) m = witness q ch (m .0)
 
--- "where asked 2 has a one-row formula, the second contents are all empty"
+-- the second row's; all empty where the formula has one row only
 abbrev pub secondOf : (q : Question) (ch : Change) (φ : Formula) → Met q φ → Contents
 secondOf q ch (one f) m = empty q
 secondOf q ch (two f) m = witness q ch (m .1)

@@ -176,6 +176,6 @@ read-holds s =
     (λ e. tt))
     (λ e. tt)
 
--- a question that was read is as 01 says a question is
+-- a question that was read is as FORMAT 1 to 3 says a question is
 pub accepted : (s : List ℕ) (q : Question) → readOf s ≡ good q → Accepted q
 accepted s q e = subst (Holds Accepted) e (read-holds s)

@@ -73,7 +73,7 @@ reads-snoc P (become k ∷ ms) m h x = reads-snoc P ms m h x
 reads-snoc P (shift j k ∷ ms) m h x = (h .0, reads-snoc P ms m (h .1) x)
 
 module _ (s : List ℕ) (low : ℕ) (gs : List Range) where
-  -- "not of the changed table where that is asked"
+  -- a column of the change that isn't the changed table's (FORMAT 4.3, 7)
   abbrev Own : ℕ → Type 0
   Own i = Between low (low + length gs) i
 

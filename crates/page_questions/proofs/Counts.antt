@@ -21,7 +21,7 @@ after-le h C.both = omega arith
 after-le h C.either = omega arith
 after-le h C.negate = omega arith
 
--- "a nonempty condition doesn't end with one value"
+-- a condition that has tokens leaves one truth (FORMAT 4.2)
 pub finish-some : (ts : C.Condition) (p : ℕ) → 0 < length ts → finish ts p ≡ cond (eqb (height ts) 1) (found ts p) (bad 6 p)
 finish-some [] p l = absurd (omega arith)
 finish-some (t ∷ ts) p l = refl

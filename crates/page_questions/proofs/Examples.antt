@@ -1,4 +1,4 @@
--- Case a of the scope document: its fields, and the three refusals that are worked out there.
+-- FORMAT 9.1: the fields of case a, and the three refusals of FORMAT 9.4.
 use Prim.Native.Nat.{ℕ}
 use mathlib.Core.Path.{_≡_, refl}
 use mathlib.Core.List.{List, [], _∷_, _++_}
@@ -11,7 +11,7 @@ use Rattle.page_questions.specs.Layout.{total, visibleFrom}
 use Rattle.page_questions.specs.Reader.{bad, many, byte, int, columnAt, comparisonAt, tokenAt, conditionAt, rowAt, insertAt, ending, fromChange, fromCondition, fromVisible, fromColumns, fromWidths, fromChanged, fromKind, fromTables, fromVersion, readOf}
 use Rattle.page_questions.specs.Fields.{mark, version, tableCount, changeKind, changedTable, columnCount, lo, visible, hi, someVisible, tokenCount, token, op, constant, seventh, operands, column, rightColumn, finish, rowCount, inserted, end, sizes, followed, runs, conditionFields, insertFields, questionFields, fieldsOf}
 
--- insert (3,9) into KEY; "Case a as a question is 73 bytes"
+-- insert (3,9) into KEY, in 73 bytes
 abbrev start : List ℕ
 start = 86 ∷ 85 ∷ 81 ∷ 1 ∷ 0 ∷ 2 ∷ 1 ∷ 0 ∷ 2 ∷ 2 ∷ []
 
@@ -43,7 +43,7 @@ pub fields : fieldsOf caseA
 unfolding questionFields followed runs sizes conditionFields insertFields total visibleFrom int32 le32
 fields = refl
 
--- "last byte cut off `refused 1 69`; one byte added `refused 9 73`; V = 31 `refused 5 69`"
+-- FORMAT 9.4: the last byte cut off; one byte added; 31 for V
 pub refusals : (readOf (take 72 caseA) ≡ bad 1 69) × (readOf (caseA ++ (0 ∷ [])) ≡ bad 9 73) × (readOf (set caseA 69 31) ≡ bad 5 69)
 unfolding readOf fromVersion fromTables fromKind fromChanged fromWidths fromColumns fromVisible fromCondition fromChange ending insertAt rowAt conditionAt tokenAt comparisonAt columnAt int byte many total visibleFrom int32 le32
 refusals = (refl, refl, refl)

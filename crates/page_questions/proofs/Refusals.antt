@@ -1,4 +1,4 @@
--- "given exactly when": the reader refuses a byte string with the number and the place of its first fault, and with no other; without a
+-- FORMAT 4.3: the reader refuses a byte string with the number and the place of its first fault, and with no other; without a
 -- fault it gives the question that the fields make.
 use mathlib.Core.Path.{_≡_, refl, sym, ap, subst, _∙_}
 use mathlib.Core.Logic.{_↔_, inl, inr}
@@ -158,7 +158,7 @@ numbered end = (omega arith, omega arith)
 
 -- ---- the theorems
 
--- each number of 01's table, at each place, exactly when
+-- FORMAT 4.3: each number, at each place, exactly when
 pub refused : (s : List ℕ) (n p : ℕ) → (readOf s ≡ bad n p) ↔ FirstFault s n p
 refused s n p = (forth, back)
   where
@@ -184,7 +184,7 @@ taken s q = (forth, back)
     back : AllSaid s 0 (fieldsOf s) × (questionIn s ≡ q) → readOf s ≡ good q
     back h = reads-fields s ∙ said-judged s (fieldsOf s) (questionIn s) 0 (omega arith) (h .0) ∙ ap good (h .1)
 
--- the first row of the table: "a field runs past the end"
+-- FORMAT 4.3, 1: a field that goes past the end
 pub refused-short : (s : List ℕ) (p : ℕ) → (readOf s ≡ bad 1 p) ↔ ((f : Field) × Reached s f p × (length s < p + size f))
 refused-short s p = (forth, back)
   where
@@ -196,7 +196,7 @@ refused-short s p = (forth, back)
     back : (f : Field) × Reached s f p × (length s < p + size f) → readOf s ≡ bad 1 p
     back x = refused s 1 p .1 (x .0, x .1, inl (x .2, refl))
 
--- the other rows: a field is there and "isn't as said", and n is its number
+-- FORMAT 4.3, the other rows: a field is there and isn't as said, and n is its number
 pub refused-value : (s : List ℕ) (n p : ℕ) → 2 ≤ n
     → (readOf s ≡ bad n p) ↔ ((f : Field) × Reached s f p × (p + size f ≤ length s) × (asSaid s f p ≡ false) × (n ≡ numberOf f))
 refused-value s n p l = (forth, back)

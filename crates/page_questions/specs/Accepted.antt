@@ -17,13 +17,13 @@ abbrev pub Every : {A : Type 0} → (A → Type 0) → List A → Type 0
 Every P [] = Unit {0}
 Every P (a ∷ l) = P a × Every P l
 
--- "−1,000,000,000 ≤ lo ≤ hi ≤ 1,000,000,000"
+-- FORMAT 1.2
 pub record RangeOk (g : Range) : Type 0 where
   pub low : negℤ farthest ≤ℤ g .lo
   pub ordered : g .lo ≤ℤ g .hi
   pub high : g .hi ≤ℤ farthest
 
--- "Constants lie in −2,000,000,000..2,000,000,000"
+-- FORMAT 2.2
 pub record ConstantOk (k : ℤ) : Type 0 where
   pub low : negℤ largest ≤ℤ k
   pub high : k ≤ℤ largest
@@ -53,12 +53,12 @@ leavesOne (suc (suc h)) (either ∷ ts) = leavesOne (suc h) ts
 leavesOne zero (negate ∷ ts) = false
 leavesOne (suc h) (negate ∷ ts) = leavesOne (suc h) ts
 
--- "no tokens means true"
+-- FORMAT 2.1: no token, or tokens that leave one truth
 abbrev pub Shaped : Condition → Type 0
 Shaped [] = Unit {0}
 Shaped (t ∷ ts) = T (leavesOne 0 (t ∷ ts))
 
--- "a postfix string of at most 16 tokens with at most 6 comparisons"
+-- FORMAT 2.1
 pub record ConditionOk (c : Condition) : Type 0 where
   pub shaped : Shaped c
   pub fewTokens : length c ≤ mostTokens
@@ -83,14 +83,14 @@ Ascending low high (i ∷ is) = (low ≤ i) × (i < high) × Ascending (suc i) h
 pub record Accepted (q : Question) : Type 0 where
   -- one mode a column of the changed table, the change's columns its own, inserted rows in range
   pub wellFormed : WellFormed q
-  -- "1 to 4 tables, each with at least 1 column, at most 8 columns in all"
+  -- FORMAT 1.1
   pub fewTables : length (q .front) + 1 + length (q .back) ≤ mostTables
   pub eachFront : Every (λ t. 1 ≤ length t) (q .front)
   pub changed : 1 ≤ length (q .changed)
   pub eachBack : Every (λ t. 1 ≤ length t) (q .back)
   pub fewColumns : length (columns q) ≤ mostColumns
   pub ranges : Every RangeOk (columns q)
-  -- "At least one column is visible"
+  -- FORMAT 1.2: one visible column or more
   pub someVisible : 1 ≤ length (q .visible)
   pub visible : Ascending 0 (length (columns q)) (q .visible)
   -- C's columns exist

@@ -13,7 +13,7 @@ use Rattle.page_meaning.specs.Contents.{Range, Mode, keep, become, shift, Value
 use Rattle.page_questions.specs.Layout.{Column, rangesOf, total, firstOf, tableOf, visibleFrom, questionFrom}
 use Rattle.page_questions.specs.Reader.{opOf, sideOf, height, comparisons}
 
--- The fields of 01, each with what its test depends on. Four are tests with no byte of their own, at the offset that 01 gives them:
+-- The fields of FORMAT 3, each with what its test depends on. Four are tests with no byte of their own, at the offset that FORMAT 4 gives:
 -- none visible, a seventh comparison, a lacking operand, an unfinished condition. The last one is the end
 pub data Field : Type 0 where
   mark version tableCount changeKind : Field
@@ -112,7 +112,7 @@ module _ (s : List ℕ) where
   abbrev pub widthFields : List ℕ → ℕ → Laid ℕ
   widthFields ws p = laid (columnCount (mostColumns - total ws) ∷ []) (byteAt p)
 
-  -- "for each column lo i32, hi i32, visible 0 or 1"
+  -- FORMAT 3.2: lo, hi, visible
   abbrev pub columnFields : ℕ → Laid Column
   columnFields p =
       laid (lo ∷ hi (int32 s p) ∷ visible ∷ []) (record { range = record { lo = int32 s p; hi = int32 s (p + 4) }; shown = eqb (byteAt (p + 4 + 4)) 1 })
@@ -120,13 +120,13 @@ module _ (s : List ℕ) where
   -- ---- conditions; their columns are numbered from low on and below high
 
   module _ (low high : ℕ) where
-    -- "Token 1 is a comparison: op, left column, right column or 255 for none, constant i32"
+    -- FORMAT 3.3: a comparison has six fields, one of them without a byte
     abbrev pub comparisonFields : Condition → ℕ → Laid Token
     comparisonFields ts p =
         laid (seventh (comparisons ts) ∷ token ∷ op ∷ column low high ∷ rightColumn low high ∷ constant ∷ [])
         (compare (opOf (byteAt (p + 1))) (byteAt (p + 1 + 1)) (sideOf (byteAt (p + 1 + 1 + 1)) (int32 s (p + 1 + 1 + 1 + 1))))
 
-    -- "Token 2 and, 3 or, 4 not"
+    -- FORMAT 3.3: a token, by its first byte
     abbrev pub tokenFields : Condition → ℕ → Laid Token
     tokenFields ts p =
         cond (eqb (byteAt p) 1) (comparisonFields ts p)
@@ -135,7 +135,7 @@ module _ (s : List ℕ) where
         (cond (eqb (byteAt p) 4) (laid (operands 1 (height ts) ∷ token ∷ []) negate)
         (laid (token ∷ []) negate))))
 
-    -- "A condition: token count, tokens"
+    -- FORMAT 3.3: the token count, the tokens, and the test that one truth is left
     unfoldable pub conditionFields : ℕ → Laid Condition
     conditionFields p =
         followed p (laid (tokenCount ∷ []) (byteAt p)) λ n p.
@@ -148,40 +148,39 @@ module _ (s : List ℕ) where
   abbrev pub valueFields : List Range → Values → ℕ → Laid ℤ
   valueFields gs vs p = laid (inserted (getD gs (length vs) (record { lo = pos 0; hi = pos 0 })) ∷ []) (int32 s p)
 
-  -- "Insert: row count, then each row's values i32"
+  -- FORMAT 3.4: the row count, and the rows' values
   unfoldable pub insertFields : List Range → ℕ → Laid Change
   insertFields gs p =
       followed p (laid (rowCount ∷ []) (byteAt p)) λ n p.
       followed p (runs (λ rs p. runs (valueFields gs) (length gs) [] p) n [] p) λ rs p.
       laid [] (insert rs)
 
-  -- "mode (0 keep, 1 constant, 2 column plus constant), column (255 unless mode 2), constant i32 (0 for keep)"
+  -- FORMAT 3.4: a mode with its column and its constant
   abbrev pub modeFields : ℕ → ℕ → ℕ → Laid Mode
   modeFields low high p =
       cond (eqb (byteAt p) 0) (laid (mode ∷ noColumn ∷ zeroConstant ∷ []) keep)
       (cond (eqb (byteAt p) 1) (laid (mode ∷ noColumn ∷ constant ∷ []) (become (int32 s (p + 1 + 1))))
       (laid (mode ∷ column low high ∷ constant ∷ []) (shift (byteAt (p + 1)) (int32 s (p + 1 + 1)))))
 
-  -- "Modify: a condition, then for each column of the changed table mode, column, constant"
+  -- FORMAT 3.4: a condition, and a mode for each column of the changed table
   unfoldable pub modifyFields : ℕ → ℕ → ℕ → Laid Change
   modifyFields low width p =
       followed p (conditionFields low (low + width) p) λ d p.
       followed p (runs (λ ms p. modeFields low (low + width) p) width [] p) λ ms p.
       laid [] (modify d ms)
 
-  -- "Delete: a condition"
+  -- FORMAT 3.4: a condition
   unfoldable pub deleteFields : ℕ → ℕ → ℕ → Laid Change
   deleteFields low high p = followed p (conditionFields low high p) λ d p. laid [] (delete d)
 
-  -- "change kind (1 insert, 2 delete, 3 modify)"
+  -- FORMAT 3.4: the change, by its kind
   abbrev pub changeFields : ℕ → ℕ → List Range → ℕ → Laid Change
   changeFields kind low gs p =
       cond (eqb kind 1) (insertFields gs p)
       (cond (eqb kind 2) (deleteFields low (low + length gs) p)
       (modifyFields low (length gs) p))
 
-  -- "Fields in order: the mark `VUQ` (one field); version u16 = 1; table count; change kind; changed table from 0; each table's column
-  -- count; for each column lo i32, hi i32, visible 0 or 1; condition C; the change"
+  -- FORMAT 3.2: all fields in order
   unfoldable pub questionFields : Laid Question
   questionFields =
       followed 0 (laid (mark ∷ version ∷ tableCount ∷ changeKind ∷ changedTable (byteAt 5) ∷ []) (byteAt 7)) λ changed p.

@@ -6,7 +6,7 @@ use lib.ListN.{getD, take, drop}
 use Rattle.page_meaning.specs.Condition.{Condition}
 use Rattle.page_meaning.specs.Contents.{Range, Table, Change, Question}
 
--- "for each column lo i32, hi i32, visible 0 or 1"
+-- FORMAT 3.2: a column's range, and whether it is visible
 pub record Column : Type 0 where
   pub range : Range
   pub shown : Bool
@@ -14,12 +14,12 @@ pub record Column : Type 0 where
 abbrev pub rangesOf : List Column → List Range
 rangesOf cs = map (λ c. c .range) cs
 
--- how many columns some tables have, from "each table's column count"
+-- how many columns some tables have, from the column count of each
 unfoldable pub total : List ℕ → ℕ
 total [] = 0
 total (w ∷ ws) = w + total ws
 
--- the number of table t's first column: columns are "numbered from 0 in table order"
+-- the number of table t's first column (FORMAT 1.1)
 abbrev pub firstOf : List ℕ → ℕ → ℕ
 firstOf ws t = total (take t ws)
 

@@ -1,5 +1,5 @@
--- The reader of 01: "Fields are read in order. Each is tested first for length, then for its value; the first fault is the answer,
--- with the offset where that field starts." A suffix `from..` reads its field and all that follows.
+-- FORMAT 4.1: fields are read in order, each tested for its length and then for its value; the first fault is the answer, with the offset
+-- where that field starts. A suffix `from..` reads its field and all that follows.
 use Prim.Native.Nat.{ℕ, zero, suc, _+_, _-_, _*_}
 use mathlib.Core.Bool.{Bool, true, cond, _&&_}
 use mathlib.Core.List.{List, [], _∷_, _++_, foldl}
@@ -31,7 +31,7 @@ pub record At (A : Type 0) : Type 0 where
 abbrev pub found : {A : Type 0} → A → ℕ → Outcome (At A)
 found a p = good (record { value = a; next = p })
 
--- "the first fault is the answer"
+-- what follows is read only where nothing was refused before
 abbrev pub andThen : {A B : Type 0} → Outcome (At A) → (A → ℕ → Outcome B) → Outcome B
 andThen (good a) f = f (a .value) (a .next)
 andThen (bad n p) f = bad n p
@@ -61,28 +61,28 @@ int s n lo hi p =
 abbrev pub upTo : ℕ → ℕ
 upTo n = suc n
 
--- "−1,000,000,000 ≤ lo ≤ hi ≤ 1,000,000,000"
+-- FORMAT 1.2: how far the ends of a range may lie from 0
 abbrev pub farthest : ℤ
 farthest = pos 1000000000
 
--- "Constants lie in −2,000,000,000..2,000,000,000"
+-- FORMAT 2.2: how far a constant may lie from 0
 abbrev pub largest : ℤ
 largest = pos 2000000000
 
 abbrev pub constantAt : List ℕ → ℕ → Outcome (At ℤ)
 constantAt s p = int s 5 (negℤ largest) largest p
 
--- "255 for none"
+-- FORMAT 3.3: the column byte that stands for no column
 abbrev pub none : ℕ
 none = 255
 
 -- ---- columns
 
--- a table's column count: "each with at least 1 column, at most 8 columns in all"
+-- FORMAT 3.2: a table's column count, 1 or more and no more than are left
 abbrev pub widthAt : List ℕ → List ℕ → ℕ → Outcome (At ℕ)
 widthAt s ws p = byte s 4 1 (upTo (mostColumns - total ws)) p
 
--- "for each column lo i32, hi i32, visible 0 or 1"
+-- FORMAT 3.2: a column's lo, hi from lo on, and visible byte
 unfoldable pub columnAt : List ℕ → ℕ → Outcome (At Column)
 columnAt s p =
     andThen (int s 5 (negℤ farthest) farthest p) λ lo p.
@@ -92,7 +92,7 @@ columnAt s p =
 
 -- ---- conditions; their columns are numbered from low on and below high
 
--- "op (1 <, 2 ≤, 3 =, 4 ≥, 5 >, 6 ≠)"
+-- FORMAT 3.3: the operators by number
 abbrev pub opOf : ℕ → Op
 opOf o =
     cond (eqb o 1) less
@@ -101,14 +101,14 @@ opOf o =
     (cond (eqb o 4) atLeast
     (cond (eqb o 5) more unequal))))
 
--- "right column or 255 for none"
+-- FORMAT 3.3: the right column, or none
 abbrev pub rightAt : List ℕ → ℕ → ℕ → ℕ → Outcome (At ℕ)
 rightAt s low high p = cond (eqb (getD s p 0) none) (found none (p + 1)) (byte s 7 low high p)
 
 abbrev pub sideOf : ℕ → ℤ → Side
 sideOf r k = cond (eqb r none) (constant k) (column r k)
 
--- "op, left column, right column or 255 for none, constant i32"
+-- FORMAT 3.3: what follows a comparison's token byte
 unfoldable pub comparisonAt : List ℕ → ℕ → ℕ → ℕ → Outcome (At Token)
 comparisonAt s low high p =
     andThen (byte s 6 1 (upTo 6) p) λ o p.
@@ -136,11 +136,11 @@ counted n negate = n
 abbrev pub comparisons : Condition → ℕ
 comparisons ts = foldl counted 0 ts
 
--- "a token lacks an operand": t needs n values
+-- FORMAT 4.3, 6: t takes n truths, and there must be as many
 abbrev pub needs : Condition → ℕ → Token → ℕ → Outcome (At Token)
 needs ts n t p = cond (leb n (height ts)) (found t (p + 1)) (bad 6 p)
 
--- the token of number t at p, after the tokens ts: "a seventh comparison (at its token byte)"
+-- the token of number t at p, after the tokens ts. FORMAT 4.3, 4: a seventh comparison is refused at its token byte
 abbrev pub tokenOf : List ℕ → ℕ → ℕ → Condition → ℕ → ℕ → Outcome (At Token)
 tokenOf s low high ts p t =
     cond (eqb t 1) (cond (ltb (comparisons ts) mostComparisons) (comparisonAt s low high (p + 1)) (bad 4 p))
@@ -148,20 +148,20 @@ tokenOf s low high ts p t =
     (cond (eqb t 3) (needs ts 2 either p)
     (needs ts 1 negate p)))
 
--- "Token 1 is a comparison .. Token 2 and, 3 or, 4 not"
+-- FORMAT 3.3: a token, by its first byte
 unfoldable pub tokenAt : List ℕ → ℕ → ℕ → Condition → ℕ → Outcome (At Token)
 tokenAt s low high ts p = andThen (byte s 6 1 (upTo 4) p) λ t q. tokenOf s low high ts p t
 
--- "a nonempty condition doesn't end with one value"
+-- FORMAT 2.1: one truth is left, or there was no token
 abbrev pub finished : Condition → Bool
 finished [] = true
 finished (t ∷ ts) = eqb (height (t ∷ ts)) 1
 
--- "an unfinished condition after its last token .. with the next offset"
+-- FORMAT 4.2: tested after the last token, with the next offset
 abbrev pub finish : Condition → ℕ → Outcome (At Condition)
 finish ts p = cond (finished ts) (found ts p) (bad 6 p)
 
--- "A condition: token count, tokens"
+-- FORMAT 3.3: the token count and the tokens
 unfoldable pub conditionAt : List ℕ → ℕ → ℕ → ℕ → Outcome (At Condition)
 conditionAt s low high p =
     andThen (byte s 4 0 (upTo mostTokens) p) λ n p.
@@ -179,22 +179,22 @@ valueAt s gs vs p = int s 5 (rangeAt .lo) (rangeAt .hi) p
 unfoldable pub rowAt : List ℕ → List Range → ℕ → Outcome (At Values)
 rowAt s gs p = many (valueAt s gs) (length gs) [] p
 
--- "Insert: row count, then each row's values i32"
+-- FORMAT 3.4: the row count and the rows
 unfoldable pub insertAt : List ℕ → List Range → ℕ → Outcome (At Change)
 insertAt s gs p =
     andThen (byte s 4 0 (upTo mostRows) p) λ n p.
     andThen (many (λ rs p. rowAt s gs p) n [] p) λ rs p.
     found (insert rs) p
 
--- "Delete: a condition"
+-- FORMAT 3.4: a condition
 unfoldable pub deleteAt : List ℕ → ℕ → ℕ → ℕ → Outcome (At Change)
 deleteAt s low high p = andThen (conditionAt s low high p) λ d p. found (delete d) p
 
--- "column (255 unless mode 2)"
+-- FORMAT 3.4: the column byte of modes 0 and 1
 abbrev pub noColumnAt : List ℕ → ℕ → Outcome (At ℕ)
 noColumnAt s p = byte s 4 none (upTo none) p
 
--- "constant i32 (0 for keep)"
+-- FORMAT 3.4: mode 0 has the constant 0
 abbrev pub keepAt : List ℕ → ℕ → Outcome (At Mode)
 keepAt s p = andThen (noColumnAt s p) λ j p. andThen (int s 4 (pos 0) (pos 0) p) λ k p. found keep p
 
@@ -204,20 +204,20 @@ becomeAt s p = andThen (noColumnAt s p) λ j p. andThen (constantAt s p) λ k p.
 abbrev pub shiftAt : List ℕ → ℕ → ℕ → ℕ → Outcome (At Mode)
 shiftAt s low high p = andThen (byte s 7 low high p) λ j p. andThen (constantAt s p) λ k p. found (shift j k) p
 
--- "mode (0 keep, 1 constant, 2 column plus constant)"
+-- FORMAT 3.4: a mode with its column and its constant
 unfoldable pub modeAt : List ℕ → ℕ → ℕ → ℕ → Outcome (At Mode)
 modeAt s low high p =
     andThen (byte s 4 0 (upTo 2) p) λ m p.
     cond (eqb m 0) (keepAt s p) (cond (eqb m 1) (becomeAt s p) (shiftAt s low high p))
 
--- "Modify: a condition, then for each column of the changed table mode, column, constant"
+-- FORMAT 3.4: a condition, then a mode for each column of the changed table
 unfoldable pub modifyAt : List ℕ → ℕ → ℕ → ℕ → Outcome (At Change)
 modifyAt s low width p =
     andThen (conditionAt s low (low + width) p) λ d p.
     andThen (many (λ ms p. modeAt s low (low + width) p) width [] p) λ ms p.
     found (modify d ms) p
 
--- "change kind (1 insert, 2 delete, 3 modify)"
+-- FORMAT 3.4: the change, by its kind
 abbrev pub changeAt : List ℕ → ℕ → ℕ → List Range → ℕ → Outcome (At Change)
 changeAt s kind low gs p =
     cond (eqb kind 1) (insertAt s gs p)
@@ -226,7 +226,7 @@ changeAt s kind low gs p =
 
 -- ---- the whole, from the end
 
--- "bytes after the end (offset of the first)"
+-- FORMAT 4.3, 9: bytes are left, and the place is the first one's
 unfoldable pub ending : List ℕ → Question → ℕ → Read
 ending s q p = cond (ltb p (length s)) (bad 9 p) (good q)
 
@@ -239,7 +239,7 @@ module _ (s : List ℕ) (kind changed : ℕ) (ws : List ℕ) where
   unfoldable pub fromCondition : List Column → ℕ → Read
   fromCondition cs p = andThen (conditionAt s 0 (total ws) p) λ c p. fromChange cs c p
 
-  -- ""None visible" is tested after the last column .. with the next offset"
+  -- FORMAT 4.2: no column visible is tested after the last column, with the next offset
   unfoldable pub fromVisible : List Column → ℕ → Read
   fromVisible cs p = seen (visibleFrom 0 cs)
     where
@@ -250,27 +250,27 @@ module _ (s : List ℕ) (kind changed : ℕ) (ws : List ℕ) where
   unfoldable pub fromColumns : ℕ → Read
   fromColumns p = andThen (many (λ cs p. columnAt s p) (total ws) [] p) λ cs p. fromVisible cs p
 
--- "each table's column count"
+-- FORMAT 3.2: the column counts
 unfoldable pub fromWidths : List ℕ → ℕ → ℕ → ℕ → ℕ → Read
 fromWidths s tables kind changed p = andThen (many (widthAt s) tables [] p) λ ws p. fromColumns s kind changed ws p
 
--- "changed table from 0"
+-- FORMAT 3.2: the changed table
 unfoldable pub fromChanged : List ℕ → ℕ → ℕ → ℕ → Read
 fromChanged s tables kind p = andThen (byte s 4 0 tables p) λ changed p. fromWidths s tables kind changed p
 
--- "change kind (1 insert, 2 delete, 3 modify)"
+-- FORMAT 3.2: the kind of change
 unfoldable pub fromKind : List ℕ → ℕ → ℕ → Read
 fromKind s tables p = andThen (byte s 4 1 (upTo 3) p) λ kind p. fromChanged s tables kind p
 
--- "1 to 4 tables"
+-- FORMAT 3.2: the table count
 unfoldable pub fromTables : List ℕ → ℕ → Read
 fromTables s p = andThen (byte s 4 1 (upTo mostTables) p) λ tables p. fromKind s tables p
 
--- "version u16 = 1"
+-- FORMAT 3.2: the version, one field of two bytes
 unfoldable pub fromVersion : List ℕ → Read
 fromVersion s = cond (leb 5 (length s)) (cond (eqb (getD s 3 0 + 256 * getD s 4 0) 1) (fromTables s 5) (bad 3 3)) (bad 1 3)
 
--- "the mark `VUQ` (one field)"
+-- FORMAT 3.2: the mark, one field of three bytes
 abbrev pub marked : List ℕ → Bool
 marked s = eqb (getD s 0 0) 86 && eqb (getD s 1 0) 85 && eqb (getD s 2 0) 81
 

@@ -1,5 +1,5 @@
 -- What the fast rule comes to, by the values that meet the facts of a node: shut where the formula is true at none of them, else open.
--- So the first open leaf is reached by going down once, with an answer to "is the formula open there?" at each node.
+-- So the first open leaf is reached by going down once, with an answer at each node whether the formula is open there.
 use Prim.Native.Nat.{ℕ, suc, _≤_, _<_}
 use mathlib.Core.Path.{_≡_, refl, sym, ap, _∙_, subst}
 use mathlib.Core.Logic.{_⊎_, inl, inr}

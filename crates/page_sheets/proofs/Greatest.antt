@@ -1,4 +1,4 @@
--- The values at an open leaf are the greatest: "its greatest solution, all columns at once".
+-- FORMAT 7.2: the values at an open leaf are the greatest that meet the facts there, in all columns at once.
 -- ---- the greatest values at an open leaf
 -- values in range that agree with the decisions meet the grid
 use Prim.Native.Nat.{ℕ, suc, _≤_, _<_}

@@ -88,7 +88,7 @@ unfolding among
 same-part a b P [] p h = refl
 same-part a b P (j ∷ is) p h = ap₂ _∷_ (h j (p .0) (or-l (eqb j j) (among is j) (eqb-refl j))) (same-part a b P is (p .1) (λ i q t. h i q (or-r (eqb j i) (among is i) t)))
 
--- "=" holds of equal numbers only
+-- = holds of equal numbers only
 pub equal-is : (a b : ℤ) → T (holds equal a b) → a ≡ b
 equal-is a b t = omega (ints, from-leZ a b (and-l (leZ a b) (leZ b a) t), from-leZ b a (and-r (leZ a b) (leZ b a) t))
 

@@ -1,4 +1,4 @@
--- The answers of the three public routines, from the bytes (01, Numbers that say no).
+-- FORMAT 4.4, 4.5 and 8.5: the answers of the three public routines, from the bytes.
 use Prim.Native.Nat.{ℕ, _-_}
 use mathlib.Core.Bool.{_||_, cond}
 use mathlib.Core.List.{List, _++_}
@@ -7,7 +7,7 @@ use lib.Dec.{eqb, leb}
 use Rattle.page_questions.specs.Reader.{Read, good, bad, readOf}
 use Rattle.page_sheets.specs.Sheet.{Verdict, Answer, says, refusal, verdictFor, findingOf, sheetOf, checkSheet}
 
--- "Order: 20, then the question, then the sheet or the room"
+-- FORMAT 4.4: 20 first, then the question
 abbrev pub askedOf : ℕ → List ℕ → Read
 askedOf a s = cond (eqb a 1 || eqb a 2) (readOf s) (bad 20 0)
 
@@ -37,14 +37,14 @@ pub record Done : Type 0 where
   pub answer : Written
   pub room : List ℕ
 
--- "On success the room holds the sheet, then zeros"; "21: the sheet is longer than the room"; "On 21 the room is all zero and no verdict is given"
+-- FORMAT 4.5: the sheet and then zeros; where it is longer than the room 21, no verdict, and zeros only
 abbrev pub placed : Verdict → List ℕ → List ℕ → Done
 placed v sheet room =
     cond (leb (length sheet) (length room))
     (record { answer = wrote v (length sheet); room = sheet ++ replicate (length room - length sheet) 0 })
     (record { answer = unwritten 21 0; room = replicate (length room) 0 })
 
--- "Refusals 1 to 20 change nothing in the room"
+-- FORMAT 4.5: 1 to 20 leave the room as it came
 abbrev pub writeFor : ℕ → List ℕ → Read → Done
 writeFor a room (good q) = placed (verdictFor (findingOf q a)) (sheetOf q a) room
 writeFor a room (bad n o) = record { answer = unwritten n o; room = room }

@@ -17,7 +17,7 @@ use Rattle.page_sheets.specs.Sheet.{Verdict, sayYes, sayNo, says, sheetO
 
 -- ---- words of the statements
 
--- "asked (1 or 2)"
+-- FORMAT 4.4: what may be asked
 abbrev pub Askable : ℕ → Type 0
 Askable a = (a ≡ 1) ⊎ (a ≡ 2)
 
@@ -35,11 +35,11 @@ Broken false q c d = Uncomputable q c d
 abbrev pub named : Question → ℕ → List ℕ → Formula
 named q a s = getD (formulas q a) (getD s 7 0) noFormula
 
--- "Contents meant: one row a table from these values; for insert the changed table is empty"
+-- FORMAT 6.4: the contents that a no sheet shows, and those that they are set against for asked 2
 abbrev pub shownFirst : Question → List ℕ → Contents
 shownFirst q s = witness q (q .change) (firstRead q s)
 
--- "where asked 2 has a one-row formula, the second contents are all empty"
+-- all empty where the formula has one row only
 abbrev pub shownSecond : Question → Formula → List ℕ → Contents
 shownSecond q F s = cond (F .pairs) (witness q (q .change) (secondRead q F s)) (empty q)
 
@@ -68,7 +68,7 @@ HasPassingSheet = (a : ℕ) (s : List ℕ) (q : Question) → Askable a → read
 abbrev pub NeverOpposite : Type 0
 NeverOpposite = (a : ℕ) (s this that : List ℕ) (v w : Verdict) → checkOf a s this ≡ says v → checkOf a s that ≡ says w → v ≡ w
 
--- "for any room at least as long as the sheet"
+-- in any room that is at least as long as the sheet
 abbrev pub WrittenPasses : Type 0
 WrittenPasses =
     (a : ℕ) (s : List ℕ) (q : Question) → Askable a → readOf s ≡ good q → (room : List ℕ) → length (sheetOf q a) ≤ length room

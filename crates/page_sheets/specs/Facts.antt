@@ -9,7 +9,7 @@ use Rattle.page_walks.specs.Grid.{Grid, tighten, blank}
 use Rattle.page_formulas.specs.Program.{Place}
 use Rattle.page_formulas.specs.Vertices.{Ranges}
 
--- "Every range is a fact always: x − 0 ≤ hi, 0 − x ≤ −lo"
+-- FORMAT 5.6: both ends of a range are facts
 abbrev pub confine : Grid → ℕ → Option Range → Grid
 confine g v none = g
 confine g v (some r) = tighten (tighten g 0 v (r .hi)) v 0 (negℤ (r .lo))
@@ -23,7 +23,7 @@ confineAll g v (r ∷ rs) = confineAll (confine g v r) (suc v) rs
 abbrev pub start : ℕ → Ranges → Grid
 start N rs = confineAll (blank N) 1 rs
 
--- "Not (a − b ≤ k) is b − a ≤ −k − 1"
+-- FORMAT 5.6: a place that is false
 abbrev pub negation : Place → Place
 negation p = record { left = p .right; right = p .left; most = negℤ (p .most) +ℤ negsuc 0 }
 
@@ -32,6 +32,6 @@ abbrev pub taken : Place → Bool → Place
 taken p true = p
 taken p false = negation p
 
--- "Such a fact is an edge from b to a with weight k; of several, the least counts"
+-- FORMAT 5.6: a decided place as an edge; of several the least counts
 abbrev pub decide : Grid → Place → Bool → Grid
 decide g p d = tighten g (taken p d .right) (taken p d .left) (taken p d .most)

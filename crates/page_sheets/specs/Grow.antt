@@ -1,5 +1,5 @@
--- "The writer's rule at a node: 1 if false; else 2 if there is a negative cycle, with the fewest edges, then the least vertex list;
--- else, if true, the formula is open; else 3."
+-- FORMAT 7.1: the writer's rule at a node. 1 if the formula is false; else 2 if there is a negative cycle, the shortest and then least;
+-- else open if the formula is true; else 3.
 use Prim.Native.Nat.{ℕ, suc}
 use mathlib.Core.Bool.{Bool, true, false}
 use mathlib.Core.Option.{Option, none, some}
@@ -17,7 +17,7 @@ pub data Growth : Type 0 where
   shut : Tree → Growth
   openAt : Values → Growth
 
--- both halves of a branch: "the first open leaf", or a tree
+-- both halves of a branch: the first open leaf, or a tree
 abbrev pub join : Growth → Growth → Growth
 join (openAt x) f = openAt x
 join (shut t) (openAt x) = openAt x

@@ -37,17 +37,17 @@ Wide q (modify d ms) i = Unit {0}
 
 -- ---- written, from the values x at an open leaf
 
--- "For insert, the changed table's values are the inserted row's"
+-- FORMAT 7.2: for an insert, the changed table's values are the inserted row's
 abbrev pub putRow : Question → Change → ℕ → Values → Values
 putRow q (insert rows) i u = putIn q (getD rows i []) u
 putRow q (delete d) i u = u
 putRow q (modify d ms) i u = u
 
--- "values of every column of the first row"
+-- FORMAT 6.3: the values of the first row
 abbrev pub firstRow : Question → ℕ → P.Values → Values
 firstRow q i x = putRow q (q .change) i (rowOf1 q x)
 
--- "and of the second where the formula has two (visible values equal)"
+-- FORMAT 6.3: those of the second, where the formula has two
 abbrev pub secondRow : Question → Formula → P.Values → Values
 secondRow q F x = cond (F .pairs) (rowOf2 q x) []
 
@@ -56,7 +56,7 @@ unfoldable pub bytesOfRow : Values → List ℕ
 bytesOfRow [] = []
 bytesOfRow (z ∷ zs) = bytes4 (ofZ w32 z) ++ bytesOfRow zs
 
--- "the first open formula's number, then .."
+-- FORMAT 6.3: the formula's number, then the values
 abbrev pub noBytes : Question → ℕ → Formula → P.Values → List ℕ
 noBytes q i F x = i ∷ bytesOfRow (firstRow q i x ++ secondRow q F x)
 
@@ -79,7 +79,7 @@ secondRead q F s = cond (F .pairs) (tabulate (width q) (λ c. valueAt s (width q
 abbrev pub readValues : Question → Formula → List ℕ → P.Values
 readValues q F s = assign (firstRead q s) (secondRead q F s)
 
--- ---- "A value out of its range, or unlike the inserted row's or the shared visible one, is 15 at its field"
+-- ---- FORMAT 8.3: which value may stand in a field; any other is 15 there
 
 -- is z in column c's range?
 abbrev pub inColumn : Question → ℕ → ℤ → Bool

@@ -1,4 +1,4 @@
--- Whole sheets: what the writer writes and what the checker answers, for a question that was read (01, Bytes of a sheet, Numbers that say no).
+-- FORMAT 6, 7.2 and 8: whole sheets, what the writer writes and what the checker answers, for a question that was read.
 use Prim.Native.Nat.{ℕ, zero, suc, _+_, _*_}
 use mathlib.Core.Bool.{Bool, _&&_, cond}
 use mathlib.Core.List.{List, [], _∷_, _++_}
@@ -22,7 +22,7 @@ lastVertex = 2 * mostColumns
 pub data Verdict : Type 0 where
   sayYes sayNo : Verdict
 
--- "verdict (0 yes, 1 no)"
+-- FORMAT 6.1: the byte of a verdict
 abbrev pub verdictByte : Verdict → ℕ
 verdictByte sayYes = 0
 verdictByte sayNo = 1
@@ -34,7 +34,7 @@ pub data Answer : Type 0 where
 
 -- ---- the sheet
 
--- "Mark `VUS`; version u16 = 1; asked; verdict"
+-- FORMAT 6.1: mark, version, asked, verdict
 abbrev pub header : ℕ → Verdict → List ℕ
 header a v = 86 ∷ 85 ∷ 83 ∷ 1 ∷ 0 ∷ a ∷ verdictByte v ∷ []
 
@@ -56,7 +56,7 @@ sheetOf q a = sheetFor q a (findingOf q a)
 
 -- ---- the check of a sheet for a question that was read
 
--- "Each is tested first for length, then for its value; the first fault is the answer, with the offset where that field starts":
+-- FORMAT 8.1: a field is tested for its length, then for its value; the first fault is the answer, with the offset where the field starts:
 -- a field of so many bytes, is its value as said, the number that says no, and what the later fields come to
 abbrev pub field : List ℕ → ℕ → ℕ → Bool → ℕ → Answer → Answer
 field s at w ok number next = cond (leb (at + w) (length s)) (cond ok next (refusal number at)) (refusal 11 at)
@@ -66,7 +66,7 @@ yesEnd (passed o []) = says sayYes
 yesEnd (passed o (b ∷ r)) = refusal 16 0
 yesEnd (refused n o) = refusal n o
 
--- "Yes: one tree per formula"
+-- FORMAT 8.2: one tree for each formula
 unfoldable pub checkYes : List Formula → List ℕ → Answer
 checkYes Fs s = yesEnd (checkTrees mostVertices Fs 7 (drop 7 s))
 
@@ -75,7 +75,7 @@ unfoldable pub checkFields : (ℕ → ℤ → Bool) → List ℕ → ℕ → ℕ
 checkFields ok s zero j next = next
 checkFields ok s (suc k) j next = let later = checkFields ok s k (suc j) next in field s (fieldAt j) 4 (ok j (valueAt s j)) 15 later
 
--- "then a failing formula is 15 at offset 7, before 16"
+-- FORMAT 8.3: a formula that isn't true at the values is 15 at offset 7; FORMAT 8.4: bytes that are left are 16, tested last
 unfoldable pub noEnd : Question → Formula → List ℕ → Answer
 noEnd q F s = cond (truth (readValues q F s) (F .program)) (cond (leb (length s) (fieldAt (fields q F))) (says sayNo) (refusal 16 0)) (refusal 15 7)
 
@@ -83,7 +83,7 @@ noEnd q F s = cond (truth (readValues q F s) (F .program)) (cond (leb (length s)
 unfoldable pub checkRows : Question → ℕ → Formula → List ℕ → Answer
 checkRows q i F s = checkFields (fieldOk q i s) s (fields q F) 0 (noEnd q F s)
 
--- "No: the first open formula's number, then i32 values"; "The checker takes any formula that the rows meet"; "A formula number too high .. is 14"
+-- FORMAT 8.3: the number of any formula that there is, else 14; then the values
 unfoldable pub checkNo : Question → List Formula → List ℕ → Answer
 checkNo q Fs s = let i = getD s 7 0 in field s 7 1 (ltb i (length Fs)) 14 (checkRows q i (getD Fs i noFormula) s)
 
@@ -91,7 +91,7 @@ abbrev pub checkBody : Question → ℕ → List ℕ → ℕ → Answer
 checkBody q a s zero = checkYes (formulas q a) s
 checkBody q a s (suc v) = checkNo q (formulas q a) s
 
--- "Mark `VUS`"; "version u16 = 1"
+-- FORMAT 6.1: the mark; the version
 abbrev pub marked : List ℕ → Bool
 marked s = eqb (getD s 0 0) 86 && eqb (getD s 1 0) 85 && eqb (getD s 2 0) 83
 

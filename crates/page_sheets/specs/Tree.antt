@@ -1,4 +1,4 @@
--- Case trees, their bytes, and the check of a tree that is read (01, Bytes of a sheet).
+-- FORMAT 6.2 and 8.2: case trees, their bytes, and the check of a tree that is read.
 use Prim.Native.Nat.{ℕ, zero, suc}
 use mathlib.Core.Bool.{Bool, true, false, cond}
 use mathlib.Core.List.{List, [], _∷_, _++_}
@@ -20,7 +20,7 @@ pub data Tree : Type 0 where
   cycle : List ℕ → Tree
   split : Tree → Tree → Tree
 
--- "preorder"
+-- FORMAT 6.2: a root's bytes, then those of its first and of its second half
 unfoldable pub bytesOf : Tree → List ℕ
 bytesOf falseLeaf = 1 ∷ []
 bytesOf (cycle c) = 2 ∷ length c ∷ c
@@ -31,7 +31,7 @@ pub data Outcome : Type 0 where
   passed : ℕ → List ℕ → Outcome
   refused : ℕ → ℕ → Outcome
 
--- "The checker hands on the part of the sheet after each tree's end to the next tree's check"
+-- what follows is checked from where the last one ended, and only where nothing was refused
 abbrev pub andThen : Outcome → (ℕ → List ℕ → Outcome) → Outcome
 andThen (passed o r) k = k o r
 andThen (refused n o) k = refused n o
@@ -45,26 +45,26 @@ abbrev pub more : ℕ → Vertices → Vertices
 more v (got c o r) = got (v ∷ c) o r
 more v (lacking n o) = lacking n o
 
--- so many of them, each one byte: 11 where it runs past the end; "a vertex that the formula lacks, is 14"
+-- so many of them, each one byte: 11 where it runs past the end, 14 for a vertex that the formula lacks (FORMAT 8.2)
 unfoldable pub vertices : Ranges → ℕ → ℕ → List ℕ → Vertices
 vertices rs zero at bs = got [] at bs
 vertices rs (suc n) at [] = lacking 11 at
 vertices rs (suc n) at (v ∷ bs) = let r = more v (vertices rs n (suc at) bs) in cond (present rs v) r (lacking 14 at)
 
--- "Node 1: the formula is false by the ≤ places decided so far"; "a bad node is 15 at the node byte"
+-- FORMAT 8.2: node 1 holds where the formula is false by what was decided; else 15 at the node byte
 abbrev pub falseNode : Three → ℕ → List ℕ → Outcome
 falseNode fails at bs = passed (suc at) bs
 falseNode passes at bs = refused 15 at
 falseNode open? at bs = refused 15 at
 
--- "following the edges and back to the first gives a sum below zero", "tested after the node's last field"
+-- FORMAT 8.2: node 2 holds where the closed walk has a sum below zero, tested after the last vertex
 abbrev pub cycleEnd : Grid → ℕ → Vertices → Outcome
 cycleEnd g at (got c o r) = cond (ltZ (closed (weight g) c) (pos 0)) (passed o r) (refused 15 at)
 cycleEnd g at (lacking n o) = refused n o
 
 -- N: how many vertex numbers there are
 module _ (N : ℕ) (F : Formula) where
-  -- "Node 2, count 1 to 17, vertices"
+  -- FORMAT 6.2: node 2 has a count and so many vertices
   abbrev pub cycleNode : Grid → ℕ → List ℕ → Outcome
   cycleNode g at [] = refused 11 (suc at)
   cycleNode g at (zero ∷ bs) = refused 14 (suc at)
@@ -79,7 +79,7 @@ module _ (N : ℕ) (F : Formula) where
   node ds g at (suc (suc (suc zero)) ∷ bs) branch = branch bs
   node ds g at (suc (suc (suc (suc b))) ∷ bs) branch = refused 14 at
 
-  -- "Node 3: the first undecided place taken as true, then as false": by the places that are left, "any branch with a place left"
+  -- FORMAT 6.2: node 3 takes the first place that isn't decided as true, then as false; FORMAT 8.2: 15 if there is none left
   unfoldable pub check : List Place → List Bool → Grid → ℕ → List ℕ → Outcome
   check [] ds g at bs = node ds g at bs (λ rest. refused 15 at)
   check (p ∷ todo) ds g at bs =

@@ -1,5 +1,4 @@
--- The twelve cases of 01: "KEY has K 0..9 and V 0..30; CLIENT has N 0..9 and Q 0..9. K and N are visible. C: K = Q and V ≥ 10. Rows are
--- written K,V,N,Q. Changes are of KEY." For each its question, its two verdicts, and the sheets that show them.
+-- FORMAT 9.3: the twelve cases. For each its question, its two verdicts, and the sheets that show them.
 use Prim.Native.Nat.{ℕ, zero, suc, _-_, _/_, _%_}
 use mathlib.Core.Path.{_≡_}
 use mathlib.Core.Bool.{Bool, true, false, _&&_}

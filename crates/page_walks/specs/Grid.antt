@@ -26,7 +26,7 @@ row g u = getD g u []
 abbrev pub weight : Grid → ℕ → ℕ → ℤ
 weight g u v = getD (row g u) v far
 
--- one more fact x v − x u ≤ k: "of several, the least counts"
+-- FORMAT 5.6: one more fact x v − x u ≤ k; of several the least counts
 unfoldable pub tighten : Grid → ℕ → ℕ → ℤ → Grid
 tighten g u v k = set g u (set (row g u) v (minZ (weight g u v) k))
 

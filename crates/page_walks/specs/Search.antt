@@ -1,4 +1,4 @@
--- The search for the negative closed walk "with the fewest edges, then the least vertex list"; and the greatest assignment.
+-- FORMAT 7.1 and 7.2: the search for the negative closed walk with the fewest edges, and of those with the least list; the greatest solution.
 use mathlib.Core.Path.{_≡_}
 use mathlib.Core.Logic.{_⊎_}
 use mathlib.Core.Bool.{Bool, cond}
@@ -66,7 +66,7 @@ module _ (w : ℕ → ℕ → ℤ) (n : ℕ) where
   unfoldable pub walk : ℕ → List ℕ
   walk k = start k ∷ greedy k (start k) (pos 0) (start k)
 
-  -- "2 if there is a negative cycle, with the fewest edges, then the least vertex list"
+  -- FORMAT 7.1: the shortest and then least negative closed walk, if there is one
   unfoldable pub search : Option (List ℕ)
   search = cond (ltb fewest (suc n)) (some (walk fewest)) none
 

@@ -7,7 +7,7 @@ use lib.IntN.{ℤ, pos}
 use Rattle.page_numbers.specs.Numbers.{up, dn}
 use Rattle.page_walks.specs.Grid.{Grid, row, weight}
 
--- no fact is below −6,000,000,001: two values in range and two constants apart, and one for a "not"
+-- no fact is below −6,000,000,001: two values in range and two constants apart, and one for a denied place
 abbrev pub least-weight : ℕ
 least-weight = 6000000001
 

@@ -16,7 +16,7 @@ module _ (w : ℕ → ℕ → ℤ) where
   from u [] t = w u t
   from u (x ∷ p) t = w u x +ℤ from x p t
 
-  -- "following the edges and back to the first gives a sum"
+  -- FORMAT 6.2: from each vertex to the next, and back to the first
   abbrev pub closed : List ℕ → ℤ
   closed [] = pos 0
   closed (v ∷ p) = from v p v

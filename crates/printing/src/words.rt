@@ -1,4 +1,4 @@
-// The words of document 01 for what is asked, for verdicts and for refusals.
+// The words of FORMAT 9.4 for what is asked, for verdicts and for refusals.
 use crate::line_end;
 use crate::numbers;
 use crate::text;

@@ -1,4 +1,4 @@
--- The loop over a row's values: the range that the code looks up is the one that 01 means.
+-- The loop over a row's values: the range that the code looks up is the one that the definition means.
 use mathlib.Core.Path.{_≡_, sym, ap, _∙_}
 use mathlib.Core.Bool.{false}
 use mathlib.Core.List.{List, map}

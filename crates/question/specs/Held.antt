@@ -125,7 +125,7 @@ pub record Held (q : Question) : Type 0 where
 
 -- ---- the answer
 
--- the number and the place that the paper gives each answer
+-- the number and the place of each answer (FORMAT 4.3)
 abbrev pub meantBy : Answer → Question → Read
 meantBy Good q = good (questionOf q)
 meantBy (Refused n p) q = bad n p
@@ -137,7 +137,7 @@ abbrev pub HeldIf : Answer → Question → Type 0
 HeldIf Good q = Held q
 HeldIf (Refused n p) q = Unit {0}
 
--- what the reader promises of its result, where 01 gives the answer o
+-- what the reader promises of its result, where the definition gives the answer o
 pub record Reads (r : Reading) (o : Read) : Type 0 where
   pub meaning : meant r ≡ o
   pub held : HeldIf (r .answer) (r .question)

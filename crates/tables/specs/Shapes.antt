@@ -26,7 +26,7 @@ pub record Counted (n : ℕ) (widths : List ℕ) (total : ℕ) : Type 0 where
   pub small : total ≤ mostColumns
   pub each : (j : ℕ) → j < n → 1 ≤ getD widths j 0
 
--- n widths were read, and o is what 01 gives for them
+-- n widths were read, and o is what the definition gives for them
 pub record WidthsRead (n : ℕ) (r : Widths) (o : Outcome (At (List ℕ))) : Type 0 where
   pub meaning : listOf (λ (w : ℕ). w) (r .answer) n (r .widths) (r .next) ≡ o
   pub counted : IfGood (r .answer) (Counted n (r .widths) (r .total))
@@ -44,7 +44,7 @@ highAt s lo p =
     andThen (byte s 4 0 (upTo 1) p) λ v p.
     found (record { range = record { lo = lo; hi = hi }; shown = eqb v 1 }) p
 
--- n columns were read, and o is what 01 gives for them
+-- n columns were read, and o is what the definition gives for them
 pub record PillarsRead (n : ℕ) (r : Pillars) (o : Outcome (At (List L.Column))) : Type 0 where
   pub meaning : listOf columnOf (r .answer) n (r .columns) (r .next) ≡ o
   pub sized : length (r .columns) ≡ mostColumns

@@ -1,4 +1,4 @@
--- cut from Pieces
+-- What the reader's results for tokens and conditions mean.
 use Prim.Native.Nat.{ℕ, _≤_}
 use mathlib.Core.Bool.{cond}
 use mathlib.Core.Path.{_≡_}
@@ -45,7 +45,7 @@ wordWith s low high compared height t p q =
 unfoldable pub tokenWith : List ℕ → ℕ → ℕ → ℕ → ℕ → ℕ → Outcome (At C.Token)
 tokenWith s low high compared height p = andThen (byte s 6 1 (upTo 4) p) λ t q. wordWith s low high compared height t p q
 
--- n tokens were read, and o is what 01 gives for them
+-- n tokens were read, and o is what the definition gives for them
 pub record TokensRead (n : ℕ) (r : Tokens) (o : Outcome (At C.Condition)) : Type 0 where
   pub meaning : listOf tokenOf (r .answer) n (r .tokens) (r .next) ≡ o
   pub stand : IfGood (r .answer) (r .height ≡ height (map tokenOf (take n (r .tokens))))
@@ -57,7 +57,7 @@ abbrev pub clauseBy : Answer → Condition → ℕ → Outcome (At C.Condition)
 clauseBy Good c q = found (conditionOf c) q
 clauseBy (Refused m p) c q = bad m p
 
--- a condition was read, and o is what 01 gives for it
+-- a condition was read, and o is what the definition gives for it
 pub record ClauseRead (r : Clause) (o : Outcome (At C.Condition)) : Type 0 where
   pub meaning : clauseBy (r .answer) (r .condition) (r .next) ≡ o
   pub fewTokens : r .condition .count ≤ mostTokens

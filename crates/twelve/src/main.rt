@@ -1,4 +1,4 @@
-// The twelve cases of the scope document, and the shortcuts that it warns of: each with both answers, and the rows that show a no.
+// FORMAT 9.3 and 9.5: the twelve cases, and the shortcuts that are wrong; each with both answers, and the rows that show a no.
 mod list;
 mod shown;
 
@@ -112,7 +112,7 @@ fn negation() {
     );
 }
 
-// What a shortcut would get wrong, by the scope document's numbers.
+// What a shortcut would get wrong.
 fn shortcuts() {
     text(b"shortcuts that are wrong\n");
     properties();

@@ -22,7 +22,7 @@ Inv-loop s first width p columns values₀ next₀ i₀ values next i =
 abbrev μ-loop : tie.MeasureT-loop
 μ-loop s first width p columns values₀ next₀ i₀ values next i = width - i
 
--- what the code reads as a value is the field that 01 means
+-- what the code reads as a value is the field that the definition means
 field : (c : tie.After-number-at Inv-loop μ-loop)
     → let l = c .before .before .before .before .before in
     let a = l .before .before .args in
