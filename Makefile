@@ -23,7 +23,7 @@ programs:
 run: programs
 	examples/whole-run
 
-# The scope document's twelve cases, and the shortcuts that it warns of, with both answers and the rows that show a no.
+# FORMAT 9.3 and 9.5: the twelve cases, and the shortcuts that are wrong, with both answers and the rows that show a no.
 twelve:
 	rt check twelve
 	examples/start twelve

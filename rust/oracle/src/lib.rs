@@ -1,9 +1,9 @@
 //! A second implementation of questions, verdicts and sheets in plain Rust.
 //!
-//! It is written from the project's scope alone, to hold the proved library against it. Nothing here
-//! is proved, and it takes other ways where it can: verdicts come from clauses, with a new one learned
-//! from each dead end; values are kept by passing on what a new fact lowers; and cycles are found by
-//! the least weights of walks of each length.
+//! It is written from the format's rules (docs/FORMAT.md) alone, to hold the proved library against
+//! it. Nothing here is proved, and it takes other ways where it can: verdicts come from clauses, with a
+//! new one learned from each dead end; values are kept by passing on what a new fact lowers; and cycles
+//! are found by the least weights of walks of each length.
 //!
 //! `rules` is the implementation. `contents` has the definitions that it must agree with, `sample`
 //! seeded questions and sheets, `examples` questions with known answers.

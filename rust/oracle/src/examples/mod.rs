@@ -1,4 +1,4 @@
-//! Questions with known answers: the scope's twelve cases and the published examples of the reports
+//! Questions with known answers: the twelve cases of docs/FORMAT.md and the published examples of the reports
 //! 000 (Blakeley, Coburn, Larson: TR 235) and 002 (Blakeley: CS-87-32), as text; and recorded answers.
 
 mod load;
@@ -29,7 +29,7 @@ pub struct Example {
     pub report: &'static str,
     /// What the report says, in words.
     pub words: &'static str,
-    /// What is right by the scope.
+    /// What is right by our definitions.
     pub right: &'static str,
     /// Why the two differ, or why the report has no verdict.
     pub why: &'static str,

@@ -89,7 +89,7 @@ fn lettered(tables: &str, range: &str, shown: &str, condition: &str) -> Sketch {
     Sketch::new(&tables.join(";"), condition)
 }
 
-/// Section 4.3: the report asks for one given list, the scope for every list.
+/// Section 4.3: the report asks for one given list, we ask for every list.
 fn conditional() -> Vec<Example> {
     let list = |tables, shown, condition| lettered(tables, "0..60", shown, condition);
     let seven = lettered("HI JKL", "0..40", "HIL", "I=J").insert(0, &[&[4, 10]]);

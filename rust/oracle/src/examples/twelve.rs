@@ -1,4 +1,4 @@
-//! The scope's twelve cases, and questions on which a shortcut that it warns of would go wrong.
+//! FORMAT 9.3 and 9.5: the twelve cases, and questions on which a shortcut would go wrong.
 
 use super::sketch::Sketch;
 use super::Example;

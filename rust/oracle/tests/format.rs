@@ -1,4 +1,4 @@
-//! The cases and bytes that the scope itself names.
+//! The cases and bytes of docs/FORMAT.md, section 9, and rooms.
 
 use oracle::examples::{shortcuts, twelve};
 use oracle::rules::sheet::values_in;
