@@ -1,4 +1,4 @@
-// Which values may stand in a no sheet's fields (specs/Rows): in range, and the inserted or the shared visible one where there is one.
+// FORMAT 8.3: which values may stand in a no sheet's fields: in range, and the inserted or the shared visible one where there is one.
 use inserted::Fixed;
 use inserted::fixed_at;
 use question::types::Column;

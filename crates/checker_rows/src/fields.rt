@@ -1,4 +1,4 @@
-// The rows of a no sheet (specs/Rows, specs/Sheet): each field's value may stand there, and the formula is true at them.
+// FORMAT 8.3: the rows of a no sheet. Each field's value may stand there, and the formula is true at them.
 use question::types::Question;
 ghost use Prim.Native.Nat.{_+_, _≤_, _<_};
 ghost use lib.ListN.{length};

@@ -1,4 +1,4 @@
-// The nodes of a case tree, one at a time: what the checker says of each (specs/Tree).
+// FORMAT 8.2: the nodes of a case tree, one at a time, and what the checker says of each.
 use truth::knowing::Truth;
 ghost use mathlib.Core.Path.{_≡_};
 ghost use Prim.Native.Nat.{ℕ, _+_, _≤_, _<_};

@@ -1,4 +1,4 @@
-// The facts of a formula as edges of the grid (specs/Facts).
+// FORMAT 5.6: the facts of a formula as edges of the grid.
 ghost use mathlib.Core.Path.{_≡_};
 ghost use Prim.Native.Nat.{_<_};
 ghost use mathlib.Core.Option.{some};

@@ -1,4 +1,4 @@
--- cut from Pieces
+-- What the reader's results for one field mean: a value and the offset after it, or a refusal.
 use Prim.Native.Nat.{ℕ}
 use lib.IntN.{ℤ}
 use Rattle.page_questions.specs.Reader.{Outcome, bad, At, found}

@@ -1,4 +1,4 @@
--- What the declared question means: its used fields as the lists that `meaning` speaks of, and the bounds of its own numbers.
+-- What the declared question means: its used fields as the lists that `page_meaning` speaks of, and the bounds of its own numbers.
 use Prim.Native.Nat.{ℕ, _+_, _≤_, _<_}
 use mathlib.Core.Path.{_≡_}
 use mathlib.Core.List.{List, map}

@@ -1,4 +1,4 @@
--- cut from Pieces
+-- Arrays of which a part is used, and what the reader's results mean for them.
 use Prim.Native.Nat.{ℕ}
 use mathlib.Core.List.{List, map}
 use lib.ListN.{take, drop}

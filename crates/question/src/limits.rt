@@ -1,4 +1,4 @@
-// How large a question may be. Every limit of the code stands here once, as those of the definitions stand in `meaning`'s Limits.
+// How large a question may be. Every limit of the code stands here once, as those of the definitions stand in `page_meaning`, Limits.
 pub const TABLES: usize = 4;
 
 pub const COLUMNS: usize = 8;
