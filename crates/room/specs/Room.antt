@@ -1,4 +1,4 @@
--- Writing into a lent room that may be too short: bytes go in one after another while there is room; from the first that finds none on, none does.
+-- Writing into a lent room that may be too short: bytes go in one after another while there is room, and the writing goes on past the end.
 use Prim.Native.Nat.{ℕ, _+_}
 use mathlib.Core.Bool.{Bool, true, false, cond}
 use mathlib.Core.List.{List, [], _∷_}

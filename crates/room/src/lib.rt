@@ -1,4 +1,5 @@
-// Bytes put into a lent room one after another. A byte that finds no room is not stored, and the spot says so from then on.
+// Bytes put into a lent room one after another. Where it is full the writing goes on, past the end, and nothing more is stored:
+// a later formula may be open, and its sheet may fit.
 ghost use Prim.Native.Nat.{_≤_, _-_};
 ghost use mathlib.Core.Path.{_≡_};
 ghost use mathlib.Core.List.{_++_};
