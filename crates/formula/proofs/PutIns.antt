@@ -7,7 +7,7 @@ use native.Mathlib.Omega.{arith}
 use lib.IntN.{ℤ, pos}
 use lib.ListN.{length, getD, take, set, length-map, length-set, List·getD-map}
 use lib.Seq.{take-suc, take-suc-set, take-all, getD-take, length-take-le}
-use Rattle.page_meaning.specs.Contents.{become}
+use Rattle.page_meaning.specs.Contents.{become, insert}
 use Rattle.question.specs.Held.{settingOf, questionOf}
 use Rattle.question.specs.Held as H
 use Rattle.question.specs.declared.types.Question.{Question}
@@ -72,7 +72,7 @@ map-at f (x ∷ l) (suc i) d e h = map-at f l i d e (omega arith)
 abbrev pub noRow : Row
 noRow = record { values = [] }
 
-pub row-formula : (q : Question) (i : ℕ) → Able q → i < q .change .count → formulaAt (F.inserted (questionOf q) (map (H.rowOf (q .shape .width)) (take (q .change .count) (q .change .rows)))) i ≡ F.oneRow (questionOf q) (F.C (questionOf q) (F.after (questionOf q) (map become (H.rowOf (q .shape .width) (getD (q .change .rows) i noRow))) F.firstSight))
+pub row-formula : (q : Question) (i : ℕ) → Able q → i < q .change .count → formulaAt (F.irrelevance (questionOf q) (insert (map (H.rowOf (q .shape .width)) (take (q .change .count) (q .change .rows))))) i ≡ F.oneRow (questionOf q) (F.C (questionOf q) (F.after (questionOf q) (map become (H.rowOf (q .shape .width) (getD (q .change .rows) i noRow))) F.firstSight))
 row-formula q i a h =
     let n : length (take (q .change .count) (q .change .rows)) ≡ q .change .count = length-take-le (q .change .count) (q .change .rows) (omega (arith, a .rows, a .whole .held .change .fewRows)) in
     let f : List ℤ → F.Formula = λ ns. F.oneRow (questionOf q) (F.C (questionOf q) (F.after (questionOf q) (map become ns) F.firstSight)) in

@@ -11,7 +11,7 @@ use sights::seeing::mode_at;
 use sights::seeing::term_at;
 ghost use mathlib.Core.Path.{_≡_};
 ghost use mathlib.Core.Bool.{true};
-ghost use Rattle.page_meaning.specs.Trouble.{modeAt};
+ghost use Rattle.page_meaning.specs.Claims.{modeAt};
 ghost use Rattle.question.specs.Held.{questionOf};
 ghost use Rattle.page_formulas.specs.Formulas.{differsOver};
 ghost use Rattle.page_formulas.specs.Formulas as trouble;

@@ -1,24 +1,23 @@
 -- Each formula's program has the truth of the trouble list's formula at the same position, on the rows that an assignment stands for.
 use Prim.Native.Nat.{ℕ}
 use mathlib.Core.Path.{_≡_, refl, ap, _∙_}
-use mathlib.Core.Bool.{Bool, true, false, _&&_, cond}
-use mathlib.Core.List.{List, [], _∷_, map}
+use mathlib.Core.Bool.{Bool, true, false, cond}
+use mathlib.Core.List.{List}
 use lib.Dec.{eqb}
 use lib.IntN.{pos}
-use Rattle.page_meaning.specs.Condition.{Condition, Row, meets}
-use Rattle.page_meaning.specs.Contents.{Question, Change, insert, delete, modify, Mode, become, Table}
-use Rattle.page_meaning.specs.Contents as M
-use Rattle.page_meaning.specs.WellFormed.{Uses, Reads}
-use Rattle.page_meaning.specs.Trouble.{modeAt, moved, differ, one, two}
+use Rattle.page_meaning.specs.Condition.{Row, meets}
+use Rattle.page_meaning.specs.Contents.{Question}
+use Rattle.page_meaning.specs.Claims.{Claim, listed, relisted, chosen, moving, staying, differing, Part, Line, Deed, modeAt, readParts, formulasBy}
+use Rattle.page_meaning.specs.Trouble.{moved, differ, one, two}
 use Rattle.page_meaning.specs.Trouble as trouble
-use Rattle.page_questions.specs.Accepted.{Shaped}
-use Rattle.page_formulas.specs.Program.{Values, Program, run, truth}
+use Rattle.page_formulas.specs.Program.{Values, run, truth}
 use Rattle.page_formulas.specs.Compile.{Sight}
-use Rattle.page_formulas.specs.Parts.{_and_, conditionProgram}
-use Rattle.page_formulas.specs.Formulas.{Formula, firstSight, secondSight, after, oneRow, twoRows, boundedAll, differs, C, moves, S, inserted, entering, irrelevance, computability, unlessAlone, formulas}
+use Rattle.page_formulas.specs.Parts.{conditionProgram}
+use Rattle.page_formulas.specs.Formulas.{Formula, firstSight, secondSight, rowSight, after, oneRow, twoRows, boundedAll, differs, C, moves, claims, programs, formula, irrelevance, computability, formulas}
 use Rattle.page_formulas.proofs.Compiles.{run-append, Sees}
 use Rattle.page_formulas.proofs.Pieces.{Pushes, pushes-truth, pushes-and, pushes-or, pushes-not, pushes-condition}
-use Rattle.page_formulas.proofs.Usable.{Exists, ChangeUsable, Usable, reads-become}
+use Rattle.page_formulas.proofs.Usable.{Exists, Doable, Usable, deeds-doable}
+use Rattle.page_formulas.proofs.Readings.{match-parts, Matched, match-formulas}
 use Rattle.page_formulas.proofs.Sights.{after-sees, boundedAll-is, differsOver-is}
 
 -- the program's truth is the test's, on the rows that ρ shows
@@ -37,125 +36,68 @@ module _ (q : Question) where
 
   -- the trouble list and the programs, position by position
   abbrev pub AgreeAll : List trouble.Formula → List Formula → Type 0
-  AgreeAll [] [] = Unit {0}
-  AgreeAll [] (F ∷ Fs) = ⊥
-  AgreeAll (φ ∷ φs) [] = ⊥
-  AgreeAll (φ ∷ φs) (F ∷ Fs) = Agrees φ F × AgreeAll φs Fs
+  AgreeAll φs Fs = Matched Agrees φs Fs
 
   -- the trouble list of the verdict asked for
   abbrev pub troubles : ℕ → List trouble.Formula
   troubles asked = cond (eqb asked 1) (trouble.irrelevance q (q .change)) (trouble.computability q (q .change))
 
--- ---- the parts of the lists
+-- ---- one law a claim
 
-module _ (q : Question) (k : Usable q) (ρ : Values) (z : ρ 0 ≡ pos 0) (σ : Sight) (r : Row) (sees : Sees (Exists q) ρ σ r) where
-  C-is : Pushes ρ (C q σ) (trouble.C q r)
-  C-is = pushes-condition (Exists q) ρ z σ r sees (q .condition) (k .uses) (k .shaped)
+-- ρ shows both rows, each by its sight
+module _ (q : Question) (k : Usable q) (ρ : Values) (z : ρ 0 ≡ pos 0) (d : Deed) (u : Doable q d) (σ : Bool → Sight) (r : Bool → Row) (sees : (i : Bool) → Sees (Exists q) ρ (σ i) (r i)) where
+  new-sees : (i : Bool) → Sees (Exists q) ρ (after q (d .modes) (σ i)) (moved q (d .modes) (r i))
+  new-sees i = after-sees (Exists q) ρ z (σ i) (r i) (sees i) q (d .modes) (u .reads)
 
-  D-is : (d : Condition) → Uses (Exists q) d → Shaped d → Pushes ρ (conditionProgram σ d) (meets d r)
-  D-is d u w = pushes-condition (Exists q) ρ z σ r sees d u w
+  C-is : (τ : Sight) (s : Row) → Sees (Exists q) ρ τ s → Pushes ρ (C q τ) (trouble.C q s)
+  C-is τ s o = pushes-condition (Exists q) ρ z τ s o (q .condition) (k .uses) (k .shaped)
 
-  moves-is : (d : Condition) → Uses (Exists q) d → Shaped d → (ms : List Mode) → Reads (Exists q) ms → Pushes ρ (moves q d ms σ) (trouble.moves q d ms r)
-  moves-is d u w ms v = record {
-    runs = λ st. run-append ρ (conditionProgram σ d) (boundedAll σ (q .changed) ms) st ∙ ap (run ρ (boundedAll σ (q .changed) ms)) (D-is d u w .runs st) ∙ boundedAll-is (Exists q) ρ z σ r sees (q .changed) ms v (meets d r) st;
-  }
+  D-is : (i : Bool) → Pushes ρ (conditionProgram (σ i) (d .condition)) (meets (d .condition) (r i))
+  D-is i = pushes-condition (Exists q) ρ z (σ i) (r i) (sees i) (d .condition) (u .uses) (u .shaped)
 
-  CF-is : (ms : List Mode) → Reads (Exists q) ms → Pushes ρ (C q (after q ms σ)) (trouble.C q (moved q ms r))
-  CF-is ms v = pushes-condition (Exists q) ρ z (after q ms σ) (moved q ms r) (after-sees (Exists q) ρ z σ r sees q ms v) (q .condition) (k .uses) (k .shaped)
+  M-is : (i : Bool) → Pushes ρ (moves q (d .condition) (d .modes) (σ i)) (trouble.moves q (d .condition) (d .modes) (r i))
+  M-is i = let tests = boundedAll (σ i) (q .changed) (d .modes) in
+      record { runs = λ st. run-append ρ (conditionProgram (σ i) (d .condition)) tests st ∙ ap (run ρ tests) (D-is i .runs st) ∙ boundedAll-is (Exists q) ρ z (σ i) (r i) (sees i) (q .changed) (d .modes) (u .reads) (meets (d .condition) (r i)) st }
 
-  S-is : (d : Condition) → Uses (Exists q) d → Shaped d → (ms : List Mode) → Reads (Exists q) ms → Pushes ρ (S q d ms σ) (trouble.S q d ms r)
-  S-is d u w ms v = pushes-or ρ (pushes-not ρ (moves-is d u w ms v)) (CF-is ms v)
-
-  differs-is : (ms : List Mode) (τ : Sight) (s : Row) → Sees (Exists q) ρ τ s → Pushes ρ (differs q ms σ τ) (differ q ms r s)
+  differs-is : (i : Bool) (τ : Sight) (s : Row) → Sees (Exists q) ρ τ s → Pushes ρ (differs q (d .modes) (after q (d .modes) (σ i)) τ) (differ q (d .modes) (moved q (d .modes) (r i)) s)
   unfolding run differ
-  differs-is ms τ s seesToo = record { runs = λ st. differsOver-is (Exists q) ρ z σ τ r s sees seesToo (modeAt q ms) (q .visible) (k .visible) false st }
+  differs-is i τ s o = record { runs = λ st. differsOver-is (Exists q) ρ z _ τ _ s (new-sees i) o (modeAt q (d .modes)) (q .visible) (k .visible) false st }
 
--- ---- the lists
+  claim-is : (c : Claim) (i : Bool) → Pushes ρ (claims q d σ c i) (trouble.claims q d r c i)
+  claim-is listed i = C-is (σ i) (r i) (sees i)
+  claim-is relisted i = C-is _ _ (new-sees i)
+  claim-is chosen i = D-is i
+  claim-is moving i = M-is i
+  claim-is staying i = pushes-or ρ (pushes-not ρ (M-is i)) (C-is _ _ (new-sees i))
+  claim-is (differing j true) i = differs-is i _ _ (new-sees j)
+  claim-is (differing j false) i = differs-is i _ _ (sees j)
+
+  parts-are : (ps : List Part) → truth ρ (readParts (programs q d σ) ps) ≡ readParts (trouble.tests q d r) ps
+  unfolding run
+  parts-are ps = pushes-truth ρ (match-parts (Pushes ρ) {x = programs q d σ} {y = trouble.tests q d r} (record { claims = claim-is; deny = pushes-not ρ; both = pushes-and ρ; nothing = record { runs = λ st. refl } }) ps)
+
+-- ---- lines, and the lists
 
 module _ (q : Question) (k : Usable q) where
-  -- every assignment that shows a row, or two
-  single : {f : Row → Bool} {p : Program} → ((ρ : Values) → ρ 0 ≡ pos 0 → (r : Row) → Sees (Exists q) ρ firstSight r → Pushes ρ p (f r)) → Single q f (oneRow q p)
-  single h = record { is = refl; means = λ ρ z r o. pushes-truth ρ (h ρ z r o) }
+  line-agrees : (d : Deed) → Doable q d → (l : Line) → Agrees q (trouble.formula q d l) (formula q d l)
+  line-agrees d u l = go (l .pairs)
+    where
+      both-seen : (ρ : Values) (r s : Row) → Sees (Exists q) ρ firstSight r → Sees (Exists q) ρ (secondSight q) s → (i : Bool) → Sees (Exists q) ρ (rowSight q true i) (cond i s r)
+      both-seen ρ r s o p true = p
+      both-seen ρ r s o p false = o
 
-  double : {f : Row → Row → Bool} {p : Program} → ((ρ : Values) → ρ 0 ≡ pos 0 → (r s : Row) → Sees (Exists q) ρ firstSight r → Sees (Exists q) ρ (secondSight q) s → Pushes ρ p (f r s)) → Double q f (twoRows q p)
-  double h = record { is = refl; means = λ ρ z r s o p. pushes-truth ρ (h ρ z r s o p) }
-
-  inserted-agree : (new : List M.Values) → AgreeAll q (trouble.inserted q new) (inserted q new)
-  inserted-agree [] = tt
-  inserted-agree (n ∷ new) = (single (λ ρ z r o. CF-is q k ρ z firstSight r o (map become n) (reads-become (Exists q) n)), inserted-agree new)
-
-  unless-agree : (ts us : List Table) (φs : List trouble.Formula) (Fs : List Formula) → AgreeAll q φs Fs → AgreeAll q (trouble.unlessAlone q ts us φs) (unlessAlone q ts us Fs)
-  unless-agree [] [] φs Fs a = tt
-  unless-agree [] (u ∷ us) φs Fs a = a
-  unless-agree (t ∷ ts) us φs Fs a = a
-
-  module _ (d : Condition) (u : Uses (Exists q) d) (w : Shaped d) where
-    delete-one : AgreeAll q (trouble.irrelevance q (delete d)) (irrelevance q (delete d))
-    delete-one = (single (λ ρ z r o. pushes-and ρ (C-is q k ρ z firstSight r o) (D-is q k ρ z firstSight r o d u w)), tt)
-
-    delete-two : AgreeAll q (trouble.computability q (delete d)) (computability q (delete d))
-    delete-two = (double (λ ρ z r s o p. pushes-and ρ (pushes-and ρ (pushes-and ρ (C-is q k ρ z firstSight r o) (C-is q k ρ z (secondSight q) s p)) (D-is q k ρ z firstSight r o d u w)) (pushes-not ρ (D-is q k ρ z (secondSight q) s p d u w))), tt)
-
-    module _ (ms : List Mode) (v : Reads (Exists q) ms) where
-      -- the parts of one row
-      module _ (ρ : Values) (z : ρ 0 ≡ pos 0) (σ : Sight) (r : Row) (o : Sees (Exists q) ρ σ r) where
-        now : Pushes ρ (C q σ) (trouble.C q r)
-        now = C-is q k ρ z σ r o
-
-        new : Pushes ρ (C q (after q ms σ)) (trouble.C q (moved q ms r))
-        new = CF-is q k ρ z σ r o ms v
-
-        go : Pushes ρ (moves q d ms σ) (trouble.moves q d ms r)
-        go = moves-is q k ρ z σ r o d u w ms v
-
-        -- its new values against another row
-        apart : (τ : Sight) (s : Row) → Sees (Exists q) ρ τ s → Pushes ρ (differs q ms (after q ms σ) τ) (differ q ms (moved q ms r) s)
-        apart τ s p = differs-is q k ρ z (after q ms σ) (moved q ms r) (after-sees (Exists q) ρ z σ r o q ms v) ms τ s p
-
-      entering-agrees : Agrees q (trouble.entering q d ms) (entering q d ms)
-      entering-agrees = single (λ ρ z r o. pushes-and ρ (pushes-and ρ (go ρ z firstSight r o) (pushes-not ρ (now ρ z firstSight r o))) (new ρ z firstSight r o))
-
-      modify-one : AgreeAll q (trouble.irrelevance q (modify d ms)) (irrelevance q (modify d ms))
-      modify-one = (
-        single (λ ρ z r o. pushes-and ρ (pushes-and ρ (go ρ z firstSight r o) (now ρ z firstSight r o)) (pushes-not ρ (new ρ z firstSight r o))),
-        (
-          entering-agrees,
-          (single (λ ρ z r o. pushes-and ρ (pushes-and ρ (pushes-and ρ (go ρ z firstSight r o) (now ρ z firstSight r o)) (new ρ z firstSight r o)) (apart ρ z firstSight r o firstSight r o)), tt),
-        ),
-      )
-
-      -- the two-row formulas begin with both rows' C
-      module _ (ρ : Values) (z : ρ 0 ≡ pos 0) (r s : Row) (o : Sees (Exists q) ρ firstSight r) (p : Sees (Exists q) ρ (secondSight q) s) where
-        both-now : Pushes ρ (C q firstSight and C q (secondSight q)) (trouble.C q r && trouble.C q s)
-        both-now = pushes-and ρ (now ρ z firstSight r o) (now ρ z (secondSight q) s p)
-
-      modify-two : AgreeAll q (trouble.computability q (modify d ms)) (computability q (modify d ms))
-      modify-two = (
-        entering-agrees,
-        (
-          double (λ ρ z r s o p. pushes-and ρ (pushes-and ρ (both-now ρ z r s o p) (S-is q k ρ z firstSight r o d u w ms v)) (pushes-not ρ (S-is q k ρ z (secondSight q) s p d u w ms v))),
-          (
-            double (λ ρ z r s o p. pushes-and ρ (pushes-and ρ (pushes-and ρ (pushes-and ρ (pushes-and ρ (both-now ρ z r s o p) (go ρ z firstSight r o)) (go ρ z (secondSight q) s p)) (new ρ z firstSight r o)) (new ρ z (secondSight q) s p))
-                (apart ρ z firstSight r o (after q ms (secondSight q)) (moved q ms s) (after-sees (Exists q) ρ z (secondSight q) s p q ms v))),
-            (double (λ ρ z r s o p. pushes-and ρ (pushes-and ρ (pushes-and ρ (pushes-and ρ (both-now ρ z r s o p) (go ρ z firstSight r o)) (pushes-not ρ (go ρ z (secondSight q) s p))) (new ρ z firstSight r o)) (apart ρ z firstSight r o (secondSight q) s p)), tt),
-          ),
-        ),
-      )
-
-  irrelevance-agree : (ch : Change) → ChangeUsable q ch → AgreeAll q (trouble.irrelevance q ch) (irrelevance q ch)
-  irrelevance-agree (insert new) h = inserted-agree new
-  irrelevance-agree (delete d) h = delete-one d (h .0) (h .1)
-  irrelevance-agree (modify d ms) h = modify-one d (h .0) (h .1) ms (h .2)
-
-  computability-agree : (ch : Change) → ChangeUsable q ch → AgreeAll q (trouble.computability q ch) (computability q ch)
-  computability-agree (insert new) h = unless-agree (q .front) (q .back) (trouble.inserted q new) (inserted q new) (inserted-agree new)
-  computability-agree (delete d) h = delete-two d (h .0) (h .1)
-  computability-agree (modify d ms) h = modify-two d (h .0) (h .1) ms (h .2)
+      go : (b : Bool) → let p = readParts (programs q d (rowSight q b)) (l .parts) in
+          Agrees q (cond b (two (λ r s. readParts (trouble.tests q d (λ i. cond i s r)) (l .parts))) (one (λ r. readParts (trouble.tests q d (λ i. r)) (l .parts)))) (cond b (twoRows q p) (oneRow q p))
+      go true = record { is = refl; means = λ ρ z r s o p. parts-are q k ρ z d u (rowSight q true) (λ i. cond i s r) (both-seen ρ r s o p) (l .parts) }
+      go false = record { is = refl; means = λ ρ z r o. parts-are q k ρ z d u (rowSight q false) (λ i. r) (λ i. o) (l .parts) }
 
   -- the formulas asked for are the trouble list's, one by one
   pub formulas-agree : (asked : ℕ) → AgreeAll q (troubles q asked) (formulas q asked)
   formulas-agree asked = go (eqb asked 1)
     where
+      all : (b : Bool) → AgreeAll q (formulasBy (trouble.formula q) q (q .change) b) (formulasBy (formula q) q (q .change) b)
+      all = match-formulas (Agrees q) (trouble.formula q) (formula q) (Doable q) (λ d u l f. line-agrees d u l) q (q .change) (deeds-doable q (q .change) (k .change))
+
       go : (b : Bool) → AgreeAll q (cond b (trouble.irrelevance q (q .change)) (trouble.computability q (q .change))) (cond b (irrelevance q (q .change)) (computability q (q .change)))
-      go true = irrelevance-agree (q .change) (k .change)
-      go false = computability-agree (q .change) (k .change)
+      go true = all true
+      go false = all false

@@ -7,9 +7,9 @@ use native.Mathlib.Omega.{arith}
 use lib.Dec.{T}
 use Rattle.page_meaning.specs.Condition.{Op, less, atMost, equal, atLeast, more, unequal, compare, both, either, negate, Condition}
 use Rattle.page_meaning.specs.Contents.{Table, Mode, keep, become, shift}
-use Rattle.page_meaning.specs.Trouble.{kept}
+use Rattle.page_meaning.specs.Claims.{kept}
 use Rattle.page_questions.specs.Accepted.{leavesOne, ConditionOk}
-use Rattle.page_formulas.specs.Program.{Program, Term, orI, falseI}
+use Rattle.page_formulas.specs.Program.{Program, Term, orI, trueI, falseI}
 use Rattle.page_formulas.specs.Kinds.{kindOf, kindsOf}
 use Rattle.page_formulas.specs.Compile.{Sight, comparison, constantTerm, plus, sideTerm, compile}
 use Rattle.page_formulas.specs.Parts.{_and_, _or_, denied, conditionProgram}
@@ -73,9 +73,13 @@ compile-lifts σ (either ∷ c) (suc (suc a)) h k e t = (omega arith, compile-li
 compile-lifts σ (negate ∷ c) zero h k e t = absurd t
 compile-lifts σ (negate ∷ c) (suc a) h k e t = (omega arith, compile-lifts σ c (suc a) h (suc (k - 1)) (omega arith) t)
 
+pub true-pushes : Pushes (trueI ∷ [])
+unfolding Rises kindsOf
+true-pushes = record { on = λ h. (omega arith, omega arith) }
+
 pub condition-pushes : (σ : Sight) (c : Condition) → ConditionOk c → Pushes (conditionProgram σ c)
 unfolding Rises kindsOf
-condition-pushes σ [] o = record { on = λ h. (omega arith, omega arith) }
+condition-pushes σ [] o = true-pushes
 condition-pushes σ (t ∷ ts) o = record { on = λ h. compile-lifts σ (t ∷ ts) 0 h h (omega arith) (o .shaped) }
 
 -- ---- range tests and comparisons of rows, each joined to what stands before it

@@ -2,6 +2,7 @@ pub mod Compiles
 pub mod Pieces
 pub mod Knows
 pub mod Usable
+pub mod Readings
 pub mod Sights
 pub mod Agreement
 pub mod Rows

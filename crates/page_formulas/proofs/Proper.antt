@@ -2,7 +2,6 @@
 -- "At most 120 places", and a program that fits the code's room.
 use Prim.Native.Nat.{ℕ, suc, _+_, _*_, _≤_}
 use mathlib.Core.Path.{refl}
-use mathlib.Core.Logic.{inl, inr}
 use mathlib.Core.Bool.{Bool, true, false, cond}
 use mathlib.Core.Option.{some}
 use mathlib.Core.List.{List, [], _∷_, _++_, map}
@@ -12,32 +11,46 @@ use lib.Dec.{T, eqb}
 use lib.IntN.{ℤ}
 use lib.Signed.{_≤ℤ_, leZ}
 use Rattle.page_numbers.proofs.Bridge.{ints}
-use Rattle.page_meaning.specs.Limits.{mostTokens, mostComparisons, mostColumns, mostDecisions}
-use Rattle.page_meaning.specs.Condition.{Condition}
-use Rattle.page_meaning.specs.Contents.{Question, Change, insert, delete, modify, Mode, become, Range, Table, columns, columnsOf, fits, inRange, TableFits}
+use Rattle.page_meaning.specs.Limits.{mostColumns, mostDecisions}
+use Rattle.page_meaning.specs.Contents.{Question, Change, insert, delete, modify, become, Range, columns, columnsOf, fits, inRange}
 use Rattle.page_meaning.specs.Contents as M
-use Rattle.page_meaning.specs.WellFormed.{Uses, Reads, ChangeOk}
-use Rattle.page_meaning.specs.Trouble.{modeAt}
+use Rattle.page_meaning.specs.Claims.{Claim, listed, relisted, chosen, moving, staying, differing, Part, Line, Deed, modeAt, readParts, formulasBy}
+use Rattle.page_meaning.specs.WellFormed.{ChangeOk}
 use Rattle.page_meaning.proofs.Truth.{and-l, and-r}
 use Rattle.page_questions.specs.Accepted.{Every, RangeOk, ConstantOk, ConditionOk, ModeOk, ChangeAccepted, Ascending, Accepted}
-use Rattle.page_formulas.specs.Program.{Program, places, falseI}
+use Rattle.page_formulas.specs.Program.{Program, places, trueI, falseI}
 use Rattle.page_formulas.specs.Compile.{Sight}
-use Rattle.page_formulas.specs.Parts.{conditionProgram}
+use Rattle.page_formulas.specs.Parts.{_and_, _or_, denied, conditionProgram}
 use Rattle.page_formulas.specs.Vertices.{Ranges}
-use Rattle.page_formulas.specs.Formulas.{Formula, firstSight, secondSight, after, firstRanges, hiddenRanges, bothRanges, oneRow, twoRows, boundedAll, differsOver, differs, C, moves, S, inserted, entering, irrelevance, computability, unlessAlone, formulas}
-use Rattle.page_formulas.proofs.Usable.{Exists, ChangeUsable, Usable, usable, reads-become}
-use Rattle.page_formulas.specs.Proper.{large, mostInstructions, Nonempty, SmallRange, Proper}
+use Rattle.page_formulas.specs.Formulas.{rowSight, after, firstRanges, hiddenRanges, bothRanges, oneRow, twoRows, boundedAll, differsOver, differs, C, moves, claims, programs, formula, irrelevance, computability, formulas}
+use Rattle.page_formulas.specs.Costs.{Cost, conditionCost, movingCost, differingCost, deniedCost, joinedCost, claimCost, costs, mostInstructions, Fits}
+use Rattle.page_formulas.specs.Proper.{large, Nonempty, SmallRange, Proper}
+use Rattle.page_formulas.proofs.Usable.{Exists, Deeds, Doable, Usable, usable, deeds-doable}
+use Rattle.page_formulas.proofs.Readings.{match-parts, every-formula}
 use Rattle.page_formulas.proofs.Sizes.{Sized, size-append, size-most, size-join, size-and, size-or, size-not, SmallSight, range-size, size-condition, size-boundedAll, size-differsOver}
-use Rattle.page_formulas.proofs.Forms.{Pushes, pushes-and, pushes-or, pushes-not, pushes-more, condition-pushes, keeps-bounded, pushes-differs}
+use Rattle.page_formulas.proofs.Forms.{Pushes, pushes-and, pushes-or, pushes-not, pushes-more, condition-pushes, true-pushes, keeps-bounded, pushes-differs}
 use Rattle.page_formulas.proofs.Present.{first-every, both-every, hidden-length, first-in-one, first-in-both, second-in-both, after-small}
 
--- ---- the parts of the lists, in a formula with ranges rs
+-- a part: its size, and that it pushes one value
+pub record Measured (rs : Ranges) (p : Program) (c : Cost) : Type 0 where
+  pub sized : Sized rs p (c .places) (c .instructions)
+  pub pushes : Pushes p
 
-abbrev C-places : ℕ
-C-places = 2 * mostComparisons
+module _ {rs : Ranges} where
+  measured-not : {p : Program} {c : Cost} → Measured rs p c → Measured rs (denied p) (deniedCost c)
+  measured-not x = record { sized = size-not rs (x .sized); pushes = pushes-not (x .pushes) }
 
-abbrev C-length : ℕ
-C-length = mostTokens + 3 * mostComparisons
+  measured-and : {p r : Program} {c e : Cost} → Measured rs p c → Measured rs r e → Measured rs (p and r) (joinedCost c e)
+  measured-and x y = record { sized = size-and rs (x .sized) (y .sized); pushes = pushes-and (x .pushes) (y .pushes) }
+
+  measured-or : {p r : Program} {c e : Cost} → Measured rs p c → Measured rs r e → Measured rs (p or r) (joinedCost c e)
+  measured-or x y = record { sized = size-or rs (x .sized) (y .sized); pushes = pushes-or (x .pushes) (y .pushes) }
+
+-- what an accepted question says of its deeds
+pub record Sound (q : Question) (d : Deed) : Type 0 where
+  pub doable : Doable q d
+  pub condition : ConditionOk (d .condition)
+  pub modes : Every ModeOk (d .modes)
 
 every-left : {A : Type 0} (P : A → Type 0) (a b : List A) → Every P (a ++ b) → Every P a
 every-left P [] b h = tt
@@ -64,70 +77,80 @@ module _ (q : Question) (a : Accepted q) where
   visible-few : length (q .visible) ≤ mostColumns
   visible-few = omega (arith, ascending-short 0 (length (columns q)) (q .visible) (omega arith) (a .visible), a .fewColumns)
 
-  module _ (rs : Ranges) where
-    C-size : (σ : Sight) → SmallSight rs (Exists q) large σ → Sized rs (C q σ) C-places C-length
-    C-size σ x = size-condition rs (Exists q) large (omega arith) σ x (q .condition) (fine .uses) (a .condition)
+  -- ---- one law a claim, in a formula with ranges rs
 
-    differs-size : (ms : List Mode) (σ τ : Sight) → SmallSight rs (Exists q) large σ → SmallSight rs (Exists q) large τ → Sized rs (differs q ms σ τ) (2 * mostColumns) (5 * mostColumns + 1)
+  module _ (rs : Ranges) (d : Deed) (o : Sound q d) (σ : Bool → Sight) (x : (i : Bool) → SmallSight rs (Exists q) 0 (σ i)) where
+    wide : (i : Bool) → SmallSight rs (Exists q) large (σ i)
+    wide i j h = let y = x i j h in record { is = y .is; high = omega (arith, y .high); low = omega (arith, y .low) }
+
+    new-wide : (i : Bool) → SmallSight rs (Exists q) large (after q (d .modes) (σ i))
+    new-wide i = after-small q rs (σ i) (x i) (d .modes) (o .modes) (o .doable .reads)
+
+    C-size : (τ : Sight) → SmallSight rs (Exists q) large τ → Measured rs (C q τ) conditionCost
+    C-size τ y = record { sized = size-condition rs (Exists q) large (omega arith) τ y (q .condition) (fine .uses) (a .condition); pushes = condition-pushes τ (q .condition) (a .condition) }
+
+    D-size : (i : Bool) → Measured rs (conditionProgram (σ i) (d .condition)) conditionCost
+    D-size i = record { sized = size-condition rs (Exists q) 0 (omega arith) (σ i) (x i) (d .condition) (o .doable .uses) (o .condition); pushes = condition-pushes (σ i) (d .condition) (o .condition) }
+
+    M-size : (i : Bool) → Measured rs (moves q (d .condition) (d .modes) (σ i)) movingCost
+    M-size i = let tests = size-boundedAll rs (Exists q) 0 (omega arith) (σ i) (x i) (q .changed) (d .modes) changed-ranges (o .modes) (o .doable .reads) in
+        record {
+          sized = size-append rs (conditionProgram (σ i) (d .condition)) (boundedAll (σ i) (q .changed) (d .modes)) (D-size i .sized) (size-most rs (2 * mostColumns) (4 * mostColumns) tests (omega (arith, changed-few)) (omega (arith, changed-few)));
+          pushes = pushes-more (D-size i .pushes) (keeps-bounded (σ i) (q .changed) (d .modes));
+        }
+
+    differs-size : (i : Bool) (τ : Sight) → SmallSight rs (Exists q) large τ → Measured rs (differs q (d .modes) (after q (d .modes) (σ i)) τ) differingCost
     unfolding places
-    differs-size ms σ τ x y = size-most rs (2 * mostColumns) (5 * mostColumns + 1) (size-append rs (falseI ∷ []) (differsOver (modeAt q ms) σ τ (q .visible)) (size-join rs falseI refl) (size-differsOver rs (Exists q) σ τ x y (modeAt q ms) (q .visible) (fine .visible))) (omega (arith, visible-few)) (omega (arith, visible-few))
+    differs-size i τ y = let F = after q (d .modes) (σ i) in let columns = size-differsOver rs (Exists q) F τ (new-wide i) y (modeAt q (d .modes)) (q .visible) (fine .visible) in
+        record {
+          sized = size-most rs (2 * mostColumns) (5 * mostColumns + 1) (size-append rs (falseI ∷ []) (differsOver (modeAt q (d .modes)) F τ (q .visible)) (size-join rs falseI refl) columns) (omega (arith, visible-few)) (omega (arith, visible-few));
+          pushes = pushes-differs (modeAt q (d .modes)) F τ (q .visible);
+        }
 
-    module _ (σ : Sight) (x : SmallSight rs (Exists q) 0 σ) where
-      wide : SmallSight rs (Exists q) large σ
-      wide i h = let y = x i h in record { is = y .is; high = omega (arith, y .high); low = omega (arith, y .low) }
+    claim-size : (c : Claim) (i : Bool) → Measured rs (claims q d σ c i) (claimCost c)
+    claim-size listed i = C-size (σ i) (wide i)
+    claim-size relisted i = C-size _ (new-wide i)
+    claim-size chosen i = D-size i
+    claim-size moving i = M-size i
+    claim-size staying i = measured-or (measured-not (M-size i)) (C-size _ (new-wide i))
+    claim-size (differing j true) i = differs-size i _ (new-wide j)
+    claim-size (differing j false) i = differs-size i _ (wide j)
 
-      now-size : Sized rs (C q σ) C-places C-length
-      now-size = C-size σ wide
-
-      module _ (d : Condition) (u : Uses (Exists q) d) (o : ConditionOk d) where
-        D-size : Sized rs (conditionProgram σ d) C-places C-length
-        D-size = size-condition rs (Exists q) 0 (omega arith) σ x d u o
-
-        module _ (ms : List Mode) (r : Reads (Exists q) ms) (m : Every ModeOk ms) where
-          new-wide : SmallSight rs (Exists q) large (after q ms σ)
-          new-wide = after-small q rs σ x ms m r
-
-          new-size : Sized rs (C q (after q ms σ)) C-places C-length
-          new-size = C-size (after q ms σ) new-wide
-
-          moves-size : Sized rs (moves q d ms σ) (C-places + 2 * mostColumns) (C-length + 4 * mostColumns)
-          moves-size = size-append rs (conditionProgram σ d) (boundedAll σ (q .changed) ms) D-size (size-most rs (2 * mostColumns) (4 * mostColumns) (size-boundedAll rs (Exists q) 0 (omega arith) σ x (q .changed) ms changed-ranges m r) (omega (arith, changed-few)) (omega (arith, changed-few)))
-
-          S-size : Sized rs (S q d ms σ) (C-places + 2 * mostColumns + 0 + (C-places + 0)) (C-length + 4 * mostColumns + 1 + (C-length + 1))
-          S-size = size-or rs (size-not rs moves-size) new-size
+    parts-size : (ps : List Part) → Measured rs (readParts (programs q d σ) ps) (readParts costs ps)
+    unfolding places
+    parts-size ps = match-parts (Measured rs) {x = programs q d σ} {y = costs} (record { claims = claim-size; deny = measured-not; both = measured-and; nothing = record { sized = size-join rs trueI refl; pushes = true-pushes } }) ps
 
   -- ---- whole formulas
 
   some-range : (g : Range) → RangeOk g → Nonempty (some g)
   some-range g r = r .ordered
 
-  proper-one : (p : Program) → Sized (firstRanges (columns q)) p mostDecisions mostInstructions → Pushes p → Proper (oneRow q p)
-  proper-one p x f = record {
-    vertices = omega (arith, length-map (columns q) some, a .fewColumns);
-    ranges-small = first-every SmallRange tt range-size (columns q) (a .ranges);
-    ranges-some = first-every Nonempty tt some-range (columns q) (a .ranges);
-    places-small = x .small;
-    few-places = x .few;
-    short = x .short;
-    formed = f .on 0;
-  }
+  both-small : (i : Bool) → SmallSight (bothRanges q) (Exists q) 0 (rowSight q true i)
+  both-small true = second-in-both q
+  both-small false = first-in-both q
 
-  proper-two : (p : Program) → Sized (bothRanges q) p mostDecisions mostInstructions → Pushes p → Proper (twoRows q p)
-  proper-two p x f = record {
-    vertices = omega (arith, length-append (firstRanges (columns q)) (hiddenRanges (q .visible) 0 (columns q)), length-map (columns q) some, hidden-length (q .visible) 0 (columns q), a .fewColumns);
-    ranges-small = both-every SmallRange tt range-size (q .visible) (columns q) (columns q) (a .ranges) (a .ranges);
-    ranges-some = both-every Nonempty tt some-range (q .visible) (columns q) (columns q) (a .ranges) (a .ranges);
-    places-small = x .small;
-    few-places = x .few;
-    short = x .short;
-    formed = f .on 0;
-  }
-
-  one-of : {p : Program} {n m : ℕ} → Sized (firstRanges (columns q)) p n m → n ≤ mostDecisions → m ≤ mostInstructions → Pushes p → Proper (oneRow q p)
-  one-of {p} x h i f = proper-one p (size-most (firstRanges (columns q)) mostDecisions mostInstructions x h i) f
-
-  two-of : {p : Program} {n m : ℕ} → Sized (bothRanges q) p n m → n ≤ mostDecisions → m ≤ mostInstructions → Pushes p → Proper (twoRows q p)
-  two-of {p} x h i f = proper-two p (size-most (bothRanges q) mostDecisions mostInstructions x h i) f
+  line-proper : (d : Deed) → Sound q d → (l : Line) → Fits l → Proper (formula q d l)
+  line-proper d o l f = go (l .pairs)
+    where
+      go : (b : Bool) → let p = readParts (programs q d (rowSight q b)) (l .parts) in Proper (cond b (twoRows q p) (oneRow q p))
+      go true = let x = parts-size (bothRanges q) d o (rowSight q true) both-small (l .parts) in record {
+        vertices = omega (arith, length-append (firstRanges (columns q)) (hiddenRanges (q .visible) 0 (columns q)), length-map (columns q) some, hidden-length (q .visible) 0 (columns q), a .fewColumns);
+        ranges-small = both-every SmallRange tt range-size (q .visible) (columns q) (columns q) (a .ranges) (a .ranges);
+        ranges-some = both-every Nonempty tt some-range (q .visible) (columns q) (columns q) (a .ranges) (a .ranges);
+        places-small = x .sized .small;
+        few-places = omega (arith, x .sized .few, f .places);
+        short = omega (arith, x .sized .short, f .instructions);
+        formed = x .pushes .on 0;
+      }
+      go false = let x = parts-size (firstRanges (columns q)) d o (rowSight q false) (λ i. first-in-one q) (l .parts) in record {
+        vertices = omega (arith, length-map (columns q) some, a .fewColumns);
+        ranges-small = first-every SmallRange tt range-size (columns q) (a .ranges);
+        ranges-some = first-every Nonempty tt some-range (columns q) (a .ranges);
+        places-small = x .sized .small;
+        few-places = omega (arith, x .sized .few, f .places);
+        short = omega (arith, x .sized .short, f .instructions);
+        formed = x .pushes .on 0;
+      }
 
   -- an inserted row's values are constants of the question
   value-ok : (g : Range) (v : ℤ) → RangeOk g → T (inRange g v) → ConstantOk v
@@ -142,97 +165,17 @@ module _ (q : Question) (a : Accepted q) where
   values-ok [] (v ∷ n) r t = absurd t
   values-ok (g ∷ gs) (v ∷ n) r t = (value-ok g v (r .0) (and-l (inRange g v) (fits gs n) t), values-ok gs n (r .1) (and-r (inRange g v) (fits gs n) t))
 
-  inserted-proper : (new : List M.Values) → TableFits (q .changed) new → Every Proper (inserted q new)
-  inserted-proper [] f = tt
-  inserted-proper (n ∷ new) f = (
-    one-of (C-size (firstRanges (columns q)) (after q (map become n) firstSight) (after-small q (firstRanges (columns q)) firstSight (first-in-one q) (map become n) (values-ok (q .changed) n changed-ranges (f n (inl refl))) (reads-become (Exists q) n))) (omega arith) (omega arith) (condition-pushes (after q (map become n) firstSight) (q .condition) (a .condition)),
-    inserted-proper new (λ r i. f r (inr i)),
-  )
-
-  unless-proper : (ts us : List Table) (Fs : List Formula) → Every Proper Fs → Every Proper (unlessAlone q ts us Fs)
-  unless-proper [] [] Fs p = tt
-  unless-proper [] (u ∷ us) Fs p = p
-  unless-proper (t ∷ ts) us Fs p = p
-
-  -- ---- each part pushes its truth
-  C-pushes : (σ : Sight) → Pushes (C q σ)
-  C-pushes σ = condition-pushes σ (q .condition) (a .condition)
-
-  module _ (d : Condition) (u : Uses (Exists q) d) (o : ConditionOk d) where
-    D-pushes : (σ : Sight) → Pushes (conditionProgram σ d)
-    D-pushes σ = condition-pushes σ d o
-
-    delete-one : Every Proper (irrelevance q (delete d))
-    delete-one = let rs = firstRanges (columns q) in let s = first-in-one q in
-        (one-of (size-and rs (now-size rs firstSight s) (D-size rs firstSight s d u o)) (omega arith) (omega arith) (pushes-and (C-pushes firstSight) (D-pushes firstSight)), tt)
-
-    delete-two : Every Proper (computability q (delete d))
-    delete-two = let rs = bothRanges q in let s = first-in-both q in let t = second-in-both q in
-        (two-of (size-and rs (size-and rs (size-and rs (now-size rs firstSight s) (now-size rs (secondSight q) t)) (D-size rs firstSight s d u o)) (size-not rs (D-size rs (secondSight q) t d u o))) (omega arith) (omega arith) (pushes-and (pushes-and (pushes-and (C-pushes firstSight) (C-pushes (secondSight q))) (D-pushes firstSight)) (pushes-not (D-pushes (secondSight q)))), tt)
-
-    module _ (ms : List Mode) (r : Reads (Exists q) ms) (m : Every ModeOk ms) where
-      -- the parts, by ranges and sight
-      M-of : (rs : Ranges) (σ : Sight) → SmallSight rs (Exists q) 0 σ → Sized rs (moves q d ms σ) (C-places + 2 * mostColumns) (C-length + 4 * mostColumns)
-      M-of rs σ x = moves-size rs σ x d u o ms r m
-
-      F-of : (rs : Ranges) (σ : Sight) → SmallSight rs (Exists q) 0 σ → Sized rs (C q (after q ms σ)) C-places C-length
-      F-of rs σ x = new-size rs σ x d u o ms r m
-
-      F-wide : (rs : Ranges) (σ : Sight) → SmallSight rs (Exists q) 0 σ → SmallSight rs (Exists q) large (after q ms σ)
-      F-wide rs σ x = new-wide rs σ x d u o ms r m
-
-      M-pushes : (σ : Sight) → Pushes (moves q d ms σ)
-      M-pushes σ = pushes-more (D-pushes σ) (keeps-bounded σ (q .changed) ms)
-
-      F-pushes : (σ : Sight) → Pushes (C q (after q ms σ))
-      F-pushes σ = C-pushes (after q ms σ)
-
-      S-pushes : (σ : Sight) → Pushes (S q d ms σ)
-      S-pushes σ = pushes-or (pushes-not (M-pushes σ)) (F-pushes σ)
-
-      differs-pushes : (σ τ : Sight) → Pushes (differs q ms σ τ)
-      differs-pushes σ τ = pushes-differs (modeAt q ms) σ τ (q .visible)
-
-      entering-proper : Proper (entering q d ms)
-      entering-proper = let rs = firstRanges (columns q) in let s = first-in-one q in
-          one-of (size-and rs (size-and rs (M-of rs firstSight s) (size-not rs (now-size rs firstSight s))) (F-of rs firstSight s)) (omega arith) (omega arith) (pushes-and (pushes-and (M-pushes firstSight) (pushes-not (C-pushes firstSight))) (F-pushes firstSight))
-
-      modify-one : Every Proper (irrelevance q (modify d ms))
-      modify-one = let rs = firstRanges (columns q) in let s = first-in-one q in (
-        one-of (size-and rs (size-and rs (M-of rs firstSight s) (now-size rs firstSight s)) (size-not rs (F-of rs firstSight s))) (omega arith) (omega arith) (pushes-and (pushes-and (M-pushes firstSight) (C-pushes firstSight)) (pushes-not (F-pushes firstSight))),
-        (
-          entering-proper,
-          (one-of (size-and rs (size-and rs (size-and rs (M-of rs firstSight s) (now-size rs firstSight s)) (F-of rs firstSight s)) (differs-size rs ms (after q ms firstSight) firstSight (F-wide rs firstSight s) (wide rs firstSight s))) (omega arith) (omega arith) (pushes-and (pushes-and (pushes-and (M-pushes firstSight) (C-pushes firstSight)) (F-pushes firstSight)) (differs-pushes (after q ms firstSight) firstSight)), tt),
-        ),
-      )
-
-      modify-two : Every Proper (computability q (modify d ms))
-      modify-two = let rs = bothRanges q in let σ = firstSight in let τ = secondSight q in let s = first-in-both q in let t = second-in-both q in
-          let both = size-and rs (now-size rs σ s) (now-size rs τ t) in
-          let two = pushes-and (C-pushes σ) (C-pushes τ) in (
-            entering-proper,
-            (
-              two-of (size-and rs (size-and rs both (S-size rs σ s d u o ms r m)) (size-not rs (S-size rs τ t d u o ms r m))) (omega arith) (omega arith) (pushes-and (pushes-and two (S-pushes σ)) (pushes-not (S-pushes τ))),
-              (
-                two-of (size-and rs (size-and rs (size-and rs (size-and rs (size-and rs both (M-of rs σ s)) (M-of rs τ t)) (F-of rs σ s)) (F-of rs τ t)) (differs-size rs ms (after q ms σ) (after q ms τ) (F-wide rs σ s) (F-wide rs τ t))) (omega arith) (omega arith) (pushes-and (pushes-and (pushes-and (pushes-and (pushes-and two (M-pushes σ)) (M-pushes τ)) (F-pushes σ)) (F-pushes τ)) (differs-pushes (after q ms σ) (after q ms τ))),
-                (two-of (size-and rs (size-and rs (size-and rs (size-and rs both (M-of rs σ s)) (size-not rs (M-of rs τ t))) (F-of rs σ s)) (differs-size rs ms (after q ms σ) τ (F-wide rs σ s) (wide rs τ t))) (omega arith) (omega arith) (pushes-and (pushes-and (pushes-and (pushes-and two (M-pushes σ)) (pushes-not (M-pushes τ))) (F-pushes σ)) (differs-pushes (after q ms σ) τ)), tt),
-              ),
-            ),
-          )
-
-  irrelevance-proper : (ch : Change) → ChangeOk q ch → ChangeAccepted ch → ChangeUsable q ch → Every Proper (irrelevance q ch)
-  irrelevance-proper (insert new) f o u = inserted-proper new f
-  irrelevance-proper (delete d) f o u = delete-one d (u .0) o
-  irrelevance-proper (modify d ms) f o u = modify-one d (u .0) (o .0) ms (u .2) (o .1)
-
-  computability-proper : (ch : Change) → ChangeOk q ch → ChangeAccepted ch → ChangeUsable q ch → Every Proper (computability q ch)
-  computability-proper (insert new) f o u = unless-proper (q .front) (q .back) (inserted q new) (inserted-proper new f)
-  computability-proper (delete d) f o u = delete-two d (u .0) o
-  computability-proper (modify d ms) f o u = modify-two d (u .0) (o .0) ms (u .2) (o .1)
+  deeds-sound : (ch : Change) → ChangeOk q ch → ChangeAccepted ch → Deeds (Doable q) ch → Deeds (Sound q) ch
+  deeds-sound (insert new) f o u = λ n i. record { doable = u n i; condition = record { shaped = tt; fewTokens = omega arith; fewComparisons = omega arith; constants = tt }; modes = values-ok (q .changed) n changed-ranges (f n i) }
+  deeds-sound (delete d) f o u = record { doable = u; condition = o; modes = tt }
+  deeds-sound (modify d ms) f o u = record { doable = u; condition = o .0; modes = o .1 }
 
   pub formulas-proper : (asked : ℕ) → Every Proper (formulas q asked)
   formulas-proper asked = go (eqb asked 1)
     where
+      all : (b : Bool) → Every Proper (formulasBy (formula q) q (q .change) b)
+      all = every-formula Proper (formula q) (Sound q) line-proper q (q .change) (deeds-sound (q .change) (a .wellFormed) (a .change) (deeds-doable q (q .change) (fine .change)))
+
       go : (b : Bool) → Every Proper (cond b (irrelevance q (q .change)) (computability q (q .change)))
-      go true = irrelevance-proper (q .change) (a .wellFormed) (a .change) (fine .change)
-      go false = computability-proper (q .change) (a .wellFormed) (a .change) (fine .change)
+      go true = all true
+      go false = all false

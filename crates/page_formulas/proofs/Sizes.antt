@@ -13,7 +13,7 @@ use Rattle.page_numbers.proofs.Bridge.{ints, +up, +dn, neg-up, neg-dn}
 use Rattle.page_meaning.specs.Limits.{mostTokens, mostComparisons}
 use Rattle.page_meaning.specs.Condition.{Op, less, atMost, equal, atLeast, more, unequal, Side, constant, column, compare, both, either, negate, Condition}
 use Rattle.page_meaning.specs.Contents.{Range, Table, Mode, keep, become, shift}
-use Rattle.page_meaning.specs.Trouble.{kept}
+use Rattle.page_meaning.specs.Claims.{kept}
 use Rattle.page_meaning.specs.WellFormed.{SideUses, Uses, Reads}
 use Rattle.page_questions.specs.Reader.{counted}
 use Rattle.page_questions.specs.Accepted.{Every, RangeOk, ConstantOk, SideOk, TokenOk, ConditionOk, ModeOk}
@@ -68,19 +68,21 @@ module _ (rs : Ranges) where
   unfolding places
   size-place p h = record { small = (h, tt); few = omega arith; short = omega arith }
 
-  pub size-and : {p r : Program} {n m k l : ℕ} → Sized rs p n m → Sized rs r k l → Sized rs (p and r) (n + (k + 0)) (m + (l + 1))
-  unfolding places
-  size-and {p} {r} x y = size-append p (r ++ (andI ∷ [])) x (size-append r (andI ∷ []) y (size-join andI refl))
+  -- two parts, then what joins them
+  size-two : {p r : Program} {n m k l : ℕ} (i : Instr) → places (i ∷ []) ≡ [] → Sized rs p n m → Sized rs r k l → Sized rs (p ++ (r ++ (i ∷ []))) (n + k) (m + (l + 1))
+  size-two {p} {r} {n} {m} {k} {l} i e x y = size-most (n + k) (m + (l + 1)) (size-append p (r ++ (i ∷ [])) x (size-append r (i ∷ []) y (size-join i e))) (omega arith) (omega arith)
 
-  pub size-or : {p r : Program} {n m k l : ℕ} → Sized rs p n m → Sized rs r k l → Sized rs (p or r) (n + (k + 0)) (m + (l + 1))
+  pub size-and : {p r : Program} {n m k l : ℕ} → Sized rs p n m → Sized rs r k l → Sized rs (p and r) (n + k) (m + (l + 1))
   unfolding places
-  size-or {p} {r} x y = size-append p (r ++ (orI ∷ [])) x (size-append r (orI ∷ []) y (size-join orI refl))
+  size-and = size-two andI refl
 
-  pub size-not : {p : Program} {n m : ℕ} → Sized rs p n m → Sized rs (denied p) (n + 0) (m + 1)
+  pub size-or : {p r : Program} {n m k l : ℕ} → Sized rs p n m → Sized rs r k l → Sized rs (p or r) (n + k) (m + (l + 1))
   unfolding places
-  size-not {p} x = size-append p (notI ∷ []) x (size-join notI refl)
+  size-or = size-two orI refl
 
-  -- ---- terms: a vertex of the formula, and an offset of at most B
+  pub size-not : {p : Program} {n m : ℕ} → Sized rs p n m → Sized rs (denied p) n (m + 1)
+  unfolding places
+  size-not {p} {n} {m} x = size-most n (m + 1) (size-append p (notI ∷ []) x (size-join notI refl)) (omega arith) (omega arith)
 
   pub record SmallTerm (B : ℕ) (t : Term) : Type 0 where
     pub is : T (present rs (t .vertex))

@@ -4,7 +4,8 @@ use mathlib.Core.List.{List, [], _∷_, _++_, map}
 use native.Mathlib.Omega.{arith}
 use lib.ListN.{length, getD, replicate, length-append}
 use Rattle.page_meaning.specs.Condition.{Condition, Token, compare, both, either, negate, Side, constant, column}
-use Rattle.page_meaning.specs.Contents.{Question, Change, insert, delete, modify, Mode, keep, become, shift, Values, columns, columnsOf}
+use Rattle.page_meaning.specs.Contents.{Question, Change, insert, delete, modify, Mode, keep, become, shift, Values, _∈_, columns, columnsOf}
+use Rattle.page_meaning.specs.Claims.{Deed, putting}
 use Rattle.page_meaning.specs.WellFormed.{Mine, SideUses, TokenUses, Uses, Reads, ChangeOk}
 use Rattle.page_questions.specs.Accepted.{Every, Shaped, ChangeAccepted, Ascending, Accepted}
 
@@ -15,6 +16,18 @@ abbrev pub ChangeUsable : Question → Change → Type 0
 ChangeUsable q (insert new) = Unit {0}
 ChangeUsable q (delete d) = Uses (Exists q) d × Shaped d
 ChangeUsable q (modify d ms) = Uses (Exists q) d × Shaped d × Reads (Exists q) ms
+
+-- P holds of each deed of a change
+abbrev pub Deeds : (Deed → Type 0) → Change → Type 0
+Deeds P (insert new) = (n : Values) → n ∈ new → P (putting n)
+Deeds P (delete d) = P (record { condition = d; modes = [] })
+Deeds P (modify d ms) = P (record { condition = d; modes = ms })
+
+-- a deed's columns exist, and its condition leaves one truth
+pub record Doable (q : Question) (d : Deed) : Type 0 where
+  pub uses : Uses (Exists q) (d .condition)
+  pub shaped : Shaped (d .condition)
+  pub reads : Reads (Exists q) (d .modes)
 
 pub record Usable (q : Question) : Type 0 where
   pub uses : Uses (Exists q) (q .condition)
@@ -81,3 +94,8 @@ reads-at P n ms u i = mode-at (λ m. Reads P (m ∷ [])) tt n ms (reads-every P 
 pub reads-become : (P : ℕ → Type 0) (n : Values) → Reads P (map become n)
 reads-become P [] = tt
 reads-become P (x ∷ n) = reads-become P n
+
+pub deeds-doable : (q : Question) (ch : Change) → ChangeUsable q ch → Deeds (Doable q) ch
+deeds-doable q (insert new) h = λ n i. record { uses = tt; shaped = tt; reads = reads-become (Exists q) n }
+deeds-doable q (delete d) h = record { uses = h .0; shaped = h .1; reads = tt }
+deeds-doable q (modify d ms) h = record { uses = h .0; shaped = h .1; reads = h .2 }

@@ -1,16 +1,16 @@
 -- The trouble lists of 01 as programs over vertices: "Formulas count from 0, parts in the order written."
 use Prim.Native.Nat.{ℕ, zero, suc, _+_}
-use mathlib.Core.Bool.{Bool, true, false, _||_, cond}
+use mathlib.Core.Bool.{Bool, true, false, _&&_, _||_, cond}
 use mathlib.Core.Option.{none, some}
 use mathlib.Core.List.{List, [], _∷_, _++_, map}
 use lib.ListN.{length, take, drop}
 use lib.Dec.{eqb}
 use lib.IntN.{ℤ, pos}
 use Rattle.page_meaning.specs.Condition.{Condition, atMost, atLeast, unequal}
-use Rattle.page_meaning.specs.Contents.{Question, Change, insert, delete, modify, Mode, keep, become, shift, Range, Table, columns, look, first}
+use Rattle.page_meaning.specs.Contents.{Question, Change, Mode, keep, become, shift, Range, Table, columns, look, first}
 use Rattle.page_meaning.specs.Contents as M
-use Rattle.page_meaning.specs.Trouble.{modeAt, kept}
-use Rattle.page_formulas.specs.Program.{Program, Term, Values, andI, orI, falseI}
+use Rattle.page_meaning.specs.Claims.{Claim, listed, relisted, chosen, moving, staying, differing, Line, Deed, modeAt, kept, Reading, readParts, formulasBy}
+use Rattle.page_formulas.specs.Program.{Program, Term, Values, andI, orI, trueI, falseI}
 use Rattle.page_formulas.specs.Compile.{Sight, comparison, constantTerm, plus}
 use Rattle.page_formulas.specs.Parts.{_and_, _or_, denied, conditionProgram}
 use Rattle.page_formulas.specs.Vertices.{Ranges}
@@ -111,46 +111,33 @@ module _ (q : Question) where
   abbrev pub S : Condition → List Mode → Sight → Program
   S d ms σ = denied (moves d ms σ) or C (after q ms σ)
 
-  -- "Insert: for each row, C with that row's values put in"
-  abbrev pub inserted : List M.Values → List Formula
-  inserted new = map (λ n. oneRow q (C (after q (map become n) firstSight))) new
+  -- the program of a claim about row i, where σ has both rows' sights (FORMAT 5.2)
+  abbrev pub claims : Deed → (Bool → Sight) → Claim → Bool → Program
+  claims d σ listed i = C (σ i)
+  claims d σ relisted i = C (after q (d .modes) (σ i))
+  claims d σ chosen i = conditionProgram (σ i) (d .condition)
+  claims d σ moving i = moves (d .condition) (d .modes) (σ i)
+  claims d σ staying i = S (d .condition) (d .modes) (σ i)
+  claims d σ (differing j new) i = differs q (d .modes) (after q (d .modes) (σ i)) (cond new (after q (d .modes) (σ j)) (σ j))
 
-  -- "M and not C and C(F)"
-  abbrev pub entering : Condition → List Mode → Formula
-  entering d ms = let σ = firstSight in oneRow q (moves d ms σ and denied (C σ) and C (after q ms σ))
+  abbrev pub programs : Deed → (Bool → Sight) → Reading Program
+  programs d σ = record { claims = claims d σ; deny = denied; both = _and_; nothing = trueI ∷ [] }
+
+  -- the sight of row i; a line of one row sees the first
+  abbrev pub rowSight : Bool → Bool → Sight
+  rowSight pairs i = cond (pairs && i) (secondSight q) firstSight
+
+  -- a line of the table
+  abbrev pub formula : Deed → Line → Formula
+  formula d l = let p = readParts (programs d (rowSight (l .pairs))) (l .parts) in cond (l .pairs) (twoRows q p) (oneRow q p)
 
   -- "Asked 1 (irrelevant)"
   abbrev pub irrelevance : Change → List Formula
-  irrelevance (insert new) = inserted new
-  irrelevance (delete d) = oneRow q (C firstSight and conditionProgram firstSight d) ∷ []
-  irrelevance (modify d ms) =
-      let σ = firstSight in
-      let F = after q ms σ in
-      oneRow q (moves d ms σ and C σ and denied (C F)) ∷ entering d ms ∷ oneRow q (moves d ms σ and C σ and C F and differs q ms F σ) ∷ []
-
-  -- "none if the list has one table"
-  abbrev pub unlessAlone : List Table → List Table → List Formula → List Formula
-  unlessAlone [] [] l = []
-  unlessAlone [] (t ∷ ts) l = l
-  unlessAlone (t ∷ ts) us l = l
+  irrelevance ch = formulasBy formula q ch true
 
   -- "Asked 2 (computable)"
   abbrev pub computability : Change → List Formula
-  computability (insert new) = unlessAlone (q .front) (q .back) (inserted new)
-  computability (delete d) =
-      let σ = firstSight in
-      let τ = secondSight q in
-      twoRows q (C σ and C τ and conditionProgram σ d and denied (conditionProgram τ d)) ∷ []
-  computability (modify d ms) =
-      let σ = firstSight in
-      let τ = secondSight q in
-      let F = after q ms σ in
-      let G = after q ms τ in
-      entering d ms
-      ∷ twoRows q (C σ and C τ and S d ms σ and denied (S d ms τ))
-      ∷ twoRows q (C σ and C τ and moves d ms σ and moves d ms τ and C F and C G and differs q ms F G)
-      ∷ twoRows q (C σ and C τ and moves d ms σ and denied (moves d ms τ) and C F and differs q ms F τ)
-      ∷ []
+  computability ch = formulasBy formula q ch false
 
   -- the formulas of the verdict asked for
   abbrev pub formulas : ℕ → List Formula

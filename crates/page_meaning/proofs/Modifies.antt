@@ -8,7 +8,8 @@ use lib.Dec.{T, T-not}
 use Rattle.page_meaning.specs.Condition.{Condition, Row}
 use Rattle.page_meaning.specs.Contents.{Question, modify, Mode, Values, look, part, Shows, Same}
 use Rattle.page_meaning.specs.WellFormed.{ChangeOk}
-use Rattle.page_meaning.specs.Trouble.{C, S, moved, moves, differ, kept, modeAt}
+use Rattle.page_meaning.specs.Claims.{kept, modeAt}
+use Rattle.page_meaning.specs.Trouble.{C, S, moved, moves, differ}
 use Rattle.page_meaning.specs.Witness.{witness}
 use Rattle.page_meaning.proofs.Truth.{and-in, or-cases, or-l, or-r, parts, test}
 use Rattle.page_meaning.proofs.Moving.{kept-same, differ-yes, differ-no}

@@ -1,13 +1,13 @@
--- The trouble lists of 01, as tests of full rows.
+-- The trouble lists as tests of full rows: what the claims of the table mean (FORMAT 5.2).
 use Prim.Native.Nat.{ℕ}
 use mathlib.Core.Path.{_≡_}
-use mathlib.Core.Bool.{Bool, true, false, not, _&&_, _||_}
-use mathlib.Core.List.{List, [], _∷_, _++_, map}
-use lib.ListN.{getD, replicate}
+use mathlib.Core.Bool.{Bool, true, false, not, _&&_, _||_, cond}
+use mathlib.Core.List.{List, [], _∷_, map}
 use lib.IntN.{_+ℤ_}
 use lib.Dec.{T}
 use Rattle.page_meaning.specs.Condition.{Condition, Row, meets, holds, unequal}
-use Rattle.page_meaning.specs.Contents.{Question, Change, insert, delete, modify, Mode, keep, become, shift, Values, Table, look, first, columns, fits, inRange, newValue, part}
+use Rattle.page_meaning.specs.Contents.{Question, Change, Mode, keep, become, shift, Values, Table, look, columns, fits, inRange, newValue, part}
+use Rattle.page_meaning.specs.Claims.{Claim, listed, relisted, chosen, moving, staying, differing, Line, Deed, modeAt, kept, Reading, readParts, formulasBy}
 
 -- a test of one full row; or, "suffixes 1 and 2", of "two full rows that share their visible columns"
 pub data Formula : Type 0 where
@@ -21,19 +21,9 @@ All P (φ ∷ l) = P φ × All P l
 
 -- ---- the modify on a full row
 
--- the mode of each column; the other tables' columns are kept
-abbrev pub modeAt : Question → List Mode → ℕ → Mode
-modeAt q ms i = getD (replicate (first q) keep ++ ms) i keep
-
 -- "F is the modify applied to a full row"
 unfoldable pub moved : Question → List Mode → Row → Row
 moved q ms r i = newValue (modeAt q ms i) r (r i)
-
--- "mode (0 keep, ..)": the value stays
-abbrev pub kept : Mode → Bool
-kept keep = true
-kept (become k) = false
-kept (shift j k) = false
 
 -- "for each column not kept, in order, new ≤ hi and new ≥ lo"
 unfoldable pub newFits : Table → List Mode → Row → Bool
@@ -71,41 +61,29 @@ module _ (q : Question) where
   abbrev pub S : Condition → List Mode → Row → Bool
   S d ms r = not (moves d ms r) || C (moved q ms r)
 
-  -- "Insert: for each row, C with that row's values put in"
-  abbrev pub inserted : List Values → List Formula
-  inserted new = map (λ n. one (λ r. C (put n r))) new
+  -- what a claim says of row i, where r has both rows
+  abbrev pub claims : Deed → (Bool → Row) → Claim → Bool → Bool
+  claims d r listed i = C (r i)
+  claims d r relisted i = C (moved q (d .modes) (r i))
+  claims d r chosen i = meets (d .condition) (r i)
+  claims d r moving i = moves (d .condition) (d .modes) (r i)
+  claims d r staying i = S (d .condition) (d .modes) (r i)
+  claims d r (differing j after) i = differ q (d .modes) (moved q (d .modes) (r i)) (cond after (moved q (d .modes) (r j)) (r j))
 
-  -- "M and not C and C(F)"
-  abbrev pub entering : Condition → List Mode → Formula
-  entering d ms = one (λ r. moves d ms r && not (C r) && C (moved q ms r))
+  abbrev pub tests : Deed → (Bool → Row) → Reading Bool
+  tests d r = record { claims = claims d r; deny = not; both = _&&_; nothing = true }
 
-  -- "Asked 1 (irrelevant)": "Delete: C and D. Modify: M and C and not C(F); M and not C and C(F); M and C and C(F) and shown change"
+  -- a line of the table
+  abbrev pub formula : Deed → Line → Formula
+  formula d l = cond (l .pairs) (two (λ r s. readParts (tests d (λ i. cond i s r)) (l .parts))) (one (λ r. readParts (tests d (λ i. r)) (l .parts)))
+
+  -- "Asked 1 (irrelevant)"
   abbrev pub irrelevance : Change → List Formula
-  irrelevance (insert new) = inserted new
-  irrelevance (delete d) = one (λ r. C r && meets d r) ∷ []
-  irrelevance (modify d ms) =
-      one (λ r. moves d ms r && C r && not (C (moved q ms r)))
-      ∷ entering d ms
-      ∷ one (λ r. moves d ms r && C r && C (moved q ms r) && differ q ms (moved q ms r) r)
-      ∷ []
+  irrelevance ch = formulasBy formula q ch true
 
-  -- "none if the list has one table"
-  abbrev pub unlessAlone : List Table → List Table → List Formula → List Formula
-  unlessAlone [] [] l = []
-  unlessAlone [] (t ∷ ts) l = l
-  unlessAlone (t ∷ ts) us l = l
-
-  -- "Asked 2 (computable)": "Insert: none if the list has one table, else as asked 1. Delete: C1, C2, D1, not D2. Modify: M and not C and
-  -- C(F); C1, C2, S1, not S2; C1, C2, M1, M2, C1(F), C2(F), some visible new1 ≠ new2; C1, C2, M1, not M2, C1(F), some visible new1 ≠ old2"
+  -- "Asked 2 (computable)"
   abbrev pub computability : Change → List Formula
-  computability (insert new) = unlessAlone (q .front) (q .back) (inserted new)
-  computability (delete d) = two (λ r s. C r && C s && meets d r && not (meets d s)) ∷ []
-  computability (modify d ms) =
-      entering d ms
-      ∷ two (λ r s. C r && C s && S d ms r && not (S d ms s))
-      ∷ two (λ r s. C r && C s && moves d ms r && moves d ms s && C (moved q ms r) && C (moved q ms s) && differ q ms (moved q ms r) (moved q ms s))
-      ∷ two (λ r s. C r && C s && moves d ms r && not (moves d ms s) && C (moved q ms r) && differ q ms (moved q ms r) s)
-      ∷ []
+  computability ch = formulasBy formula q ch false
 
   -- rows in range that meet a formula; two "share their visible columns"
   abbrev pub Met : Formula → Type 0

@@ -19,7 +19,7 @@ use question::types::Token;
 ghost use mathlib.Core.Path.{_≡_};
 ghost use mathlib.Core.Bool.{true};
 ghost use Prim.Native.Nat.{_<_};
-ghost use Rattle.page_meaning.specs.Trouble as listed;
+ghost use Rattle.page_meaning.specs.Claims as listed;
 ghost use Rattle.page_meaning.specs.WellFormed.{TokenUses};
 ghost use Rattle.question.specs.Held.{tokenOf, conditionOf, modeOf, columnOf, questionOf};
 ghost use Rattle.page_formulas.specs.Compile as compiled;
