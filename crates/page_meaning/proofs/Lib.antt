@@ -1,3 +1,4 @@
+pub mod Words
 pub mod Truth
 pub mod Moving
 pub mod Tables

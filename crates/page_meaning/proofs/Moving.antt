@@ -12,7 +12,8 @@ use Rattle.page_meaning.specs.Condition.{Condition, Row, Token, compare,
 use Rattle.page_meaning.specs.Contents.{Question, Mode, keep, become, shift, Values, Table, Range, look, first, fits, inRange, newValue, newValues, newRow, place, Full, row}
 use Rattle.page_meaning.specs.WellFormed.{Mine, SideUses, TokenUses, Uses, Reads}
 use Rattle.page_meaning.specs.Claims.{kept}
-use Rattle.page_meaning.specs.Trouble.{moved, newFits, differOver, put}
+use Rattle.page_meaning.specs.Trouble.{moved, newFits, differOver}
+use Rattle.page_meaning.proofs.Words.{put}
 use Rattle.page_meaning.proofs.Truth.{and-in, or-cases, or-l, or-r, parts, test, not-unequal, unequal-not}
 
 -- ---- a condition sees the columns that it names
