@@ -1,6 +1,6 @@
 -- Every formula of an accepted question is proper: few vertices, small ranges, places between its vertices with small constants,
 -- "At most 120 places", and a program that fits the code's room.
-use Prim.Native.Nat.{ℕ, suc, _+_, _*_, _≤_}
+use Prim.Native.Nat.{ℕ, suc, _+_, _*_, _≤_, _<_}
 use mathlib.Core.Path.{refl}
 use mathlib.Core.Bool.{Bool, true, false, cond}
 use mathlib.Core.Option.{some}
@@ -11,7 +11,7 @@ use lib.Dec.{T, eqb}
 use lib.IntN.{ℤ}
 use lib.Signed.{_≤ℤ_, leZ}
 use Rattle.page_numbers.proofs.Bridge.{ints}
-use Rattle.page_meaning.specs.Limits.{mostColumns, mostDecisions}
+use Rattle.page_meaning.specs.Limits.{mostColumns, mostVertices, mostDecisions}
 use Rattle.page_meaning.specs.Condition.{Condition}
 use Rattle.page_meaning.specs.Contents.{Question, Change, insert, delete, modify, Mode, become, Range, columns, columnsOf, fits, inRange}
 use Rattle.page_meaning.specs.Contents as M
@@ -23,7 +23,7 @@ use Rattle.page_formulas.specs.Program.{Program, places, andI, orI, fals
 use Rattle.page_formulas.specs.Compile.{Sight}
 use Rattle.page_formulas.specs.Parts.{conditionProgram}
 use Rattle.page_formulas.specs.Vertices.{Ranges}
-use Rattle.page_formulas.specs.Formulas.{firstSight, secondSight, firstRanges, hiddenRanges, bothRanges, boundedAll, differsOver, programs, formula, irrelevance, computability, formulas}
+use Rattle.page_formulas.specs.Formulas.{Formula, firstSight, secondSight, firstRanges, hiddenRanges, bothRanges, boundedAll, differsOver, programs, formula, irrelevance, computability, formulas}
 use Rattle.page_formulas.specs.Costs.{Cost, conditionCost, costs, mostInstructions, Fits}
 use Rattle.page_formulas.specs.Proper.{large, Nonempty, SmallRange, Proper}
 use Rattle.page_formulas.proofs.Usable.{Exists, Deeds, Doable, Usable, usable, deeds-doable}
@@ -108,25 +108,17 @@ module _ (q : Question) (a : Accepted q) where
   both-small true = second-in-both q
   both-small false = first-in-both q
 
+  proper-by : {F : Formula} {c : Cost} → length (F .ranges) < mostVertices → Every SmallRange (F .ranges) → Every Nonempty (F .ranges) → Measured (F .ranges) (F .program) c → c .places ≤ mostDecisions → c .instructions ≤ mostInstructions → Proper F
+  proper-by v s n x p i = record { vertices = v; ranges-small = s; ranges-some = n; places-small = x .sized .small; few-places = omega (arith, x .sized .few); short = omega (arith, x .sized .short); formed = x .pushes .on 0 }
+
   line-proper : (d : Condition) (ms : List Mode) → Sound q d ms → (l : Line) → Fits l → Proper (formula q d ms l)
-  line-proper d ms o (single p ps) f = let x = parts-fit (firstRanges (columns q)) d ms o (λ i. firstSight) (λ i. first-in-one q) p ps in record {
-    vertices = omega (arith, length-map (columns q) some, a .fewColumns);
-    ranges-small = first-every SmallRange tt range-size (columns q) (a .ranges);
-    ranges-some = first-every Nonempty tt some-range (columns q) (a .ranges);
-    places-small = x .sized .small;
-    few-places = omega (arith, x .sized .few, f .places);
-    short = omega (arith, x .sized .short, f .instructions);
-    formed = x .pushes .on 0;
-  }
-  line-proper d ms o (double p ps) f = let x = parts-fit (bothRanges q) d ms o (λ i. cond i (secondSight q) firstSight) both-small p ps in record {
-    vertices = omega (arith, length-append (firstRanges (columns q)) (hiddenRanges (q .visible) 0 (columns q)), length-map (columns q) some, hidden-length (q .visible) 0 (columns q), a .fewColumns);
-    ranges-small = both-every SmallRange tt range-size (q .visible) (columns q) (columns q) (a .ranges) (a .ranges);
-    ranges-some = both-every Nonempty tt some-range (q .visible) (columns q) (columns q) (a .ranges) (a .ranges);
-    places-small = x .sized .small;
-    few-places = omega (arith, x .sized .few, f .places);
-    short = omega (arith, x .sized .short, f .instructions);
-    formed = x .pushes .on 0;
-  }
+  line-proper d ms o (single p ps) f =
+      proper-by (omega (arith, length-map (columns q) some, a .fewColumns)) (first-every SmallRange tt range-size (columns q) (a .ranges)) (first-every Nonempty tt some-range (columns q) (a .ranges))
+      (parts-fit (firstRanges (columns q)) d ms o (λ i. firstSight) (λ i. first-in-one q) p ps) (f .places) (f .instructions)
+  line-proper d ms o (double p ps) f =
+      proper-by (omega (arith, length-append (firstRanges (columns q)) (hiddenRanges (q .visible) 0 (columns q)), length-map (columns q) some, hidden-length (q .visible) 0 (columns q), a .fewColumns))
+      (both-every SmallRange tt range-size (q .visible) (columns q) (columns q) (a .ranges) (a .ranges)) (both-every Nonempty tt some-range (q .visible) (columns q) (columns q) (a .ranges) (a .ranges))
+      (parts-fit (bothRanges q) d ms o (λ i. cond i (secondSight q) firstSight) both-small p ps) (f .places) (f .instructions)
 
   -- an inserted row's values are constants of the question
   value-ok : (g : Range) (v : ℤ) → RangeOk g → T (inRange g v) → ConstantOk v

@@ -56,14 +56,14 @@ Matched R (a ∷ l) (b ∷ bs) = R a b × Matched R l bs
 
 -- ---- every line of the table finds room
 
-insertion-fits : Fits insertion
+pub insertion-fits : Fits insertion
 insertion-fits = record { instructions = omega arith; places = omega arith }
 
-deletion-fits : (asked : Bool) → Every Fits (deletion asked)
+pub deletion-fits : (asked : Bool) → Every Fits (deletion asked)
 deletion-fits true = (record { instructions = omega arith; places = omega arith }, tt)
 deletion-fits false = (record { instructions = omega arith; places = omega arith }, tt)
 
-modification-fits : (asked : Bool) → Every Fits (modification asked)
+pub modification-fits : (asked : Bool) → Every Fits (modification asked)
 modification-fits true = (record { instructions = omega arith; places = omega arith }, (record { instructions = omega arith; places = omega arith }, (record { instructions = omega arith; places = omega arith }, tt)))
 modification-fits false = (record { instructions = omega arith; places = omega arith }, (record { instructions = omega arith; places = omega arith }, (record { instructions = omega arith; places = omega arith }, (record { instructions = omega arith; places = omega arith }, tt))))
 

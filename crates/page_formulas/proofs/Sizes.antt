@@ -10,7 +10,6 @@ use lib.IntN.{ℤ, pos, negsuc, negℤ, _-ℤ_}
 use lib.Signed.{_≤ℤ_}
 use Rattle.page_numbers.specs.Numbers.{up, dn}
 use Rattle.page_numbers.proofs.Bridge.{ints, +up, +dn, neg-up, neg-dn}
-use Rattle.page_meaning.specs.Limits.{mostTokens, mostComparisons}
 use Rattle.page_meaning.specs.Condition.{Op, less, atMost, equal, atLeast, more, unequal, Side, constant, column, compare, both, either, negate, Condition}
 use Rattle.page_meaning.specs.Contents.{Range, Table, Mode, keep, become, shift}
 use Rattle.page_meaning.specs.Claims.{kept}
@@ -22,6 +21,7 @@ use Rattle.page_formulas.specs.Compile.{Sight, atMostPlace, belowPlace, 
 use Rattle.page_formulas.specs.Parts.{joined, denied, conditionProgram}
 use Rattle.page_formulas.specs.Vertices.{Ranges, present}
 use Rattle.page_formulas.specs.Formulas.{bounded, boundedAll, differsNew, differsOver}
+use Rattle.page_formulas.specs.Costs.{conditionCost}
 use Rattle.page_formulas.specs.Proper.{billion, large, highest, SmallPlace}
 
 -- ---- programs: small places, at most n of them, at most m instructions
@@ -171,11 +171,11 @@ module _ (rs : Ranges) (P : ℕ → Type 0) where
     compile-size (either ∷ c) u o n = let r = compile-size c (u .1) (o .1) n in (r .0, r .1, one-token orI refl c (r .0) (r .2))
     compile-size (negate ∷ c) u o n = let r = compile-size c (u .1) (o .1) n in (r .0, r .1, one-token notI refl c (r .0) (r .2))
 
-    pub size-condition : (c : Condition) → Uses P c → ConditionOk c → Sized rs (conditionProgram σ c) (2 * mostComparisons) (mostTokens + 3 * mostComparisons)
+    pub size-condition : (c : Condition) → Uses P c → ConditionOk c → Sized rs (conditionProgram σ c) (conditionCost .places) (conditionCost .instructions)
     unfolding places
-    size-condition [] u o = size-most rs (2 * mostComparisons) (mostTokens + 3 * mostComparisons) (size-join rs trueI refl) (omega arith) (omega arith)
+    size-condition [] u o = size-most rs (conditionCost .places) (conditionCost .instructions) (size-join rs trueI refl) (omega arith) (omega arith)
     size-condition (t ∷ ts) u o = let r = compile-size (t ∷ ts) u (o .constants) 0 in
-        size-most rs (2 * mostComparisons) (mostTokens + 3 * mostComparisons) (r .2) (omega (arith, r .1, o .fewComparisons)) (omega (arith, r .1, o .fewComparisons, o .fewTokens))
+        size-most rs (conditionCost .places) (conditionCost .instructions) (r .2) (omega (arith, r .1, o .fewComparisons)) (omega (arith, r .1, o .fewComparisons, o .fewTokens))
 
     -- "new ≤ hi and new ≥ lo"
     size-bounded : (t : Term) → SmallTerm rs (B + large) t → (g : Range) → RangeOk g → Sized rs (bounded t g) 2 4

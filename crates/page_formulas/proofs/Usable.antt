@@ -6,6 +6,7 @@ use lib.ListN.{length, getD, replicate, length-append}
 use Rattle.page_meaning.specs.Condition.{Condition, Token, compare, both, either, negate, Side, constant, column}
 use Rattle.page_meaning.specs.Contents.{Question, Change, insert, delete, modify, Mode, keep, become, shift, Values, _∈_, columns, columnsOf}
 use Rattle.page_meaning.specs.WellFormed.{Mine, SideUses, TokenUses, Uses, Reads, ChangeOk}
+use Rattle.page_meaning.proofs.Moving.{reads-become}
 use Rattle.page_questions.specs.Accepted.{Every, Shaped, ChangeAccepted, Ascending, Accepted}
 
 abbrev pub Exists : Question → ℕ → Type 0
@@ -89,10 +90,6 @@ reads-every P (shift j k ∷ ms) u = ((u .0, tt), reads-every P ms (u .1))
 
 pub reads-at : (P : ℕ → Type 0) (n : ℕ) (ms : List Mode) → Reads P ms → (i : ℕ) → Reads P (getD (replicate n keep ++ ms) i keep ∷ [])
 reads-at P n ms u i = mode-at (λ m. Reads P (m ∷ [])) tt n ms (reads-every P ms u) i
-
-pub reads-become : (P : ℕ → Type 0) (n : Values) → Reads P (map become n)
-reads-become P [] = tt
-reads-become P (x ∷ n) = reads-become P n
 
 pub deeds-doable : (q : Question) (ch : Change) → ChangeUsable q ch → Deeds (Doable q) ch
 deeds-doable q (insert new) h = λ n i. record { uses = tt; shaped = tt; reads = reads-become (Exists q) n }

@@ -10,5 +10,4 @@ pub mod Deletes
 pub mod Modifies
 pub mod Inserts
 pub mod Agree
-pub mod Hooks
 pub mod Examples

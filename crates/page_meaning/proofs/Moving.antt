@@ -146,7 +146,7 @@ new-become [] (v ∷ r) s e = absurd (omega arith)
 new-become (k ∷ n) [] s e = absurd (omega arith)
 new-become (k ∷ n) (v ∷ r) s e = ap (λ l. k ∷ l) (new-become n r s (omega arith))
 
-reads-become : (P : ℕ → Type 0) (n : Values) → Reads P (map become n)
+pub reads-become : (P : ℕ → Type 0) (n : Values) → Reads P (map become n)
 reads-become P [] = tt
 reads-become P (k ∷ n) = reads-become P n
 
