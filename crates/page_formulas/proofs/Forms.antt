@@ -53,7 +53,7 @@ comparison-pushes atLeast l r h = (omega arith, omega arith)
 comparison-pushes more l r h = (omega arith, omega arith)
 comparison-pushes unequal l r h = (omega arith, (omega arith, (omega arith, (omega arith, omega arith))))
 
--- "one value is left"
+-- in the end one truth is left (FORMAT 2.1)
 compile-lifts : (σ : Sight) (c : Condition) (a h k : ℕ) → k ≡ a + h → T (leavesOne a c) → Lifts k (compile σ c) (suc h)
 unfolding Rises kindsOf compile leavesOne
 compile-lifts σ [] zero h k e t = absurd t
@@ -97,7 +97,7 @@ unfolding Rises kindsOf differsOver
 over-lifts mode σ τ h [] = refl
 over-lifts mode σ τ h (i ∷ is) = lifts-then (suc h) (suc h) (suc h) (differsNew (mode i) (σ i) (τ i)) (differsOver mode σ τ is) (differs-lifts (σ i) (τ i) h (kept (mode i))) (over-lifts mode σ τ h is)
 
--- "false if there is none"
+-- false if no column may differ
 pub pushes-differs : (mode : ℕ → Mode) (σ τ : Sight) (is : List ℕ) → Pushes (falseI ∷ differsOver mode σ τ is)
 unfolding Rises kindsOf
 pushes-differs mode σ τ is = record { on = λ h. lifts-then h (suc h) (suc h) (falseI ∷ []) (differsOver mode σ τ is) (omega arith, omega arith) (over-lifts mode σ τ h is) }

@@ -1,5 +1,5 @@
 -- Every formula of an accepted question is proper: few vertices, small ranges, places between its vertices with small constants,
--- "At most 120 places", and a program that fits the code's room.
+-- few places (FORMAT 7.3), and a program that fits the code's room.
 use Prim.Native.Nat.{ℕ, suc, _+_, _*_, _≤_, _<_}
 use mathlib.Core.Path.{refl}
 use mathlib.Core.Bool.{Bool, true, false, cond}

@@ -97,7 +97,7 @@ module _ (rs : Ranges) where
       low = omega (arith, +dn (r .offset -ℤ l .offset) (negsuc 0), +dn (r .offset) (negℤ (l .offset)), neg-dn (l .offset), x .high, y .low);
     }
 
-  -- "at most 120 places": two a comparison, and at most four instructions
+  -- a comparison has at most two places and four instructions
   pub size-comparison : (A B : ℕ) (op : Op) (l r : Term) → SmallTerm A l → SmallTerm B r → A + B ≤ highest → Sized rs (comparison op l r) 2 4
   unfolding places
   size-comparison A B op l r x y h = go op
@@ -177,7 +177,7 @@ module _ (rs : Ranges) (P : ℕ → Type 0) where
     size-condition (t ∷ ts) u o = let r = compile-size (t ∷ ts) u (o .constants) 0 in
         size-most rs (conditionCost .places) (conditionCost .instructions) (r .2) (omega (arith, r .1, o .fewComparisons)) (omega (arith, r .1, o .fewComparisons, o .fewTokens))
 
-    -- "new ≤ hi and new ≥ lo"
+    -- a column's range tests
     size-bounded : (t : Term) → SmallTerm rs (B + large) t → (g : Range) → RangeOk g → Sized rs (bounded t g) 2 4
     unfolding places
     size-bounded t x g r = let z = range-size g r in

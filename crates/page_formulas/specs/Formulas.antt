@@ -1,4 +1,4 @@
--- The trouble lists of 01 as programs over vertices: "Formulas count from 0, parts in the order written."
+-- The trouble lists as programs over vertices (FORMAT 5).
 use Prim.Native.Nat.{ℕ, zero, suc, _+_}
 use mathlib.Core.Bool.{Bool, true, false, _||_, cond}
 use mathlib.Core.Option.{none, some}
@@ -26,7 +26,7 @@ pub record Formula : Type 0 where
 abbrev pub vertex : ℕ → Term
 vertex v = record { vertex = v; offset = pos 0 }
 
--- "1+i column i of the first row"
+-- FORMAT 5.4: vertex 1 + i is column i of the first row
 abbrev pub firstSight : Sight
 firstSight i = vertex (suc i)
 
@@ -35,7 +35,7 @@ unfoldable pub among : List ℕ → ℕ → Bool
 among [] i = false
 among (j ∷ js) i = eqb j i || among js i
 
--- "1+n+i column i of the second where column i is hidden, n columns in all"; the rows "share their visible columns"
+-- FORMAT 5.4: 1 + n + i is column i of the second row if that column is hidden; a visible one is the first row's
 abbrev pub secondSight : Question → Sight
 secondSight q i = vertex (cond (among (q .visible) i) (suc i) (suc (length (columns q) + i)))
 
@@ -45,13 +45,13 @@ newTerm keep σ old = old
 newTerm (become k) σ old = constantTerm k
 newTerm (shift j k) σ old = plus (σ j) k
 
--- "F is the modify applied to a full row"
+-- F: the row after the modify
 unfoldable pub after : Question → List Mode → Sight → Sight
 after q ms σ i = newTerm (modeAt q ms i) σ (σ i)
 
 -- ---- what its vertices range over
 
--- "An insert keeps its changed table's vertices, with their ranges only": every column of the first row has its vertex
+-- every column of the first row has its vertex, of an insert too (FORMAT 5.4)
 abbrev pub firstRanges : List Range → Ranges
 firstRanges gs = map some gs
 
@@ -71,7 +71,7 @@ twoRows q p = record { ranges = bothRanges q; pairs = true; program = p }
 
 -- ---- parts
 
--- "new ≤ hi and new ≥ lo", each joined to what stands before it
+-- new value ≤ hi, new value ≥ lo (FORMAT 5.2), each joined to what stands before it
 abbrev pub bounded : Term → Range → Program
 bounded t g = comparison atMost t (constantTerm (g .hi)) ++ (andI ∷ (comparison atLeast t (constantTerm (g .lo)) ++ (andI ∷ [])))
 
@@ -80,13 +80,13 @@ boundedNew keep σ g = []
 boundedNew (become k) σ g = bounded (constantTerm k) g
 boundedNew (shift j k) σ g = bounded (plus (σ j) k) g
 
--- "for each column not kept, in order"
+-- for each column whose mode isn't 0, in order
 unfoldable pub boundedAll : Sight → Table → List Mode → Program
 boundedAll σ [] ms = []
 boundedAll σ (g ∷ gs) [] = []
 boundedAll σ (g ∷ gs) (m ∷ ms) = boundedNew m σ g ++ boundedAll σ gs ms
 
--- "some visible column not kept has new ≠ old, joined by or in column order (false if there is none)"
+-- for each visible column whose mode isn't 0, in order: the one value ≠ the other, joined to what stands before it
 abbrev pub differsNew : Mode → Term → Term → Program
 differsNew m a b = cond (kept m) [] (comparison unequal a b ++ (orI ∷ []))
 
@@ -97,7 +97,7 @@ differsOver mode σ τ (i ∷ is) = differsNew (mode i) (σ i) (τ i) ++ differs
 -- ---- the lists
 
 module _ (q : Question) where
-  -- the words of the table (FORMAT 5.2) as programs: M is its condition and the range tests, differ is "false if there is none"
+  -- the words of the table (FORMAT 5.2), as programs; differ begins with false
   abbrev pub programs : Condition → List Mode → Reading Sight Program
   programs d ms = record { F = after q ms; C = λ σ. conditionProgram σ (q .condition); D = λ σ. conditionProgram σ d; M = λ σ. conditionProgram σ d ++ boundedAll σ (q .changed) ms; differ = λ σ τ. falseI ∷ differsOver (modeAt q ms) σ τ (q .visible); deny = denied; both = joined andI; either = joined orI }
 
@@ -106,11 +106,11 @@ module _ (q : Question) where
   formula d ms (single p ps) = oneRow q (readParts (programs d ms) (λ i. firstSight) p ps)
   formula d ms (double p ps) = twoRows q (readParts (programs d ms) (λ i. cond i (secondSight q) firstSight) p ps)
 
-  -- "Asked 1 (irrelevant)"
+  -- asked 1
   abbrev pub irrelevance : Change → List Formula
   irrelevance ch = formulasBy formula q ch true
 
-  -- "Asked 2 (computable)"
+  -- asked 2
   abbrev pub computability : Change → List Formula
   computability ch = formulasBy formula q ch false
 
@@ -139,7 +139,7 @@ rowOf1 q ρ = rowBy q ρ firstSight
 abbrev pub rowOf2 : Question → Values → M.Values
 rowOf2 q ρ = rowBy q ρ (secondSight q)
 
--- "For insert, the changed table's values are the inserted row's"
+-- FORMAT 7.2: for an insert the changed table's values are the inserted row's
 abbrev pub putIn : Question → M.Values → M.Values → M.Values
 putIn q new u = take (first q) u ++ (new ++ drop (length (q .changed)) (drop (first q) u))
 

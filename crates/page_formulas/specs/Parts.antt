@@ -11,7 +11,7 @@ joined i p r = p ++ (r ++ (i ∷ []))
 abbrev pub denied : Program → Program
 denied p = p ++ (notI ∷ [])
 
--- "no tokens means true"
+-- without tokens it is true (FORMAT 2.1)
 abbrev pub conditionProgram : Sight → Condition → Program
 conditionProgram σ [] = trueI ∷ []
 conditionProgram σ (t ∷ ts) = compile σ (t ∷ ts)

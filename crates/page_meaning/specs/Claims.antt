@@ -24,7 +24,7 @@ pub data Line : Type 0 where
 
 -- ---- the table (FORMAT 5.3): the lines of a change for asked 1 (true) and asked 2 (false)
 
--- "for each row: C with that row's values in the changed table's columns"
+-- once for each inserted row, whose values are the modes
 abbrev pub insertion : Line
 insertion = single (of1 relisted) []
 
@@ -51,7 +51,7 @@ modification false =
 abbrev pub modeAt : Question → List Mode → ℕ → Mode
 modeAt q ms i = getD (replicate (first q) keep ++ ms) i keep
 
--- "mode (0 keep, ..)": the value stays
+-- mode 0 (FORMAT 1.5): the value stays
 abbrev pub kept : Mode → Bool
 kept keep = true
 kept (become k) = false
@@ -91,7 +91,7 @@ module _ {W A : Type 0} (R : Reading W A) (w : Bool → W) where
   readParts p ps = foldl (λ a x. R .both a (readPart x)) (readPart p) ps
 
 module _ {A : Type 0} where
-  -- "none if there is one table only"
+  -- nothing where there is one table only
   abbrev pub unlessAlone : List Table → List Table → List A → List A
   unlessAlone [] [] l = []
   unlessAlone [] (t ∷ ts) l = l
