@@ -10,12 +10,13 @@ use lib.ListN.{length, take, drop, length-map, length-drop}
 use lib.Seq.{length-take-le}
 use Rattle.page_meaning.specs.Contents.{Range, Table}
 use Rattle.page_meaning.specs.Contents as M
+use Rattle.page_meaning.specs.Claims.{unlessAlone}
 use Rattle.page_questions.specs.Layout.{tablesOf, firstOf, widthOf, questionFrom}
 use Rattle.question.specs.Held.{rowOf, rangesOf, widthsOf, questionOf}
 use Rattle.question.specs.declared.types.Question.{Question}
 use Rattle.question.specs.declared.types.Verb.the-variants.{Insert, Delete, Modify}
 use Rattle.page_formulas.specs.Formulas as F
-use Rattle.formula.specs.Able.{Able, Widths, deed, settledModes}
+use Rattle.formula.specs.Able.{Able, Widths, deed, settledModes, C}
 use Rattle.formula.proofs.Numbered.{by, by-delete, by-modify}
 
 tables-length : (ws : List ℕ) (gs : List Range) → length (tablesOf ws gs) ≡ length ws
@@ -23,23 +24,23 @@ unfolding tablesOf
 tables-length [] gs = refl
 tables-length (w ∷ ws) gs = ap suc (tables-length ws (drop w gs))
 
-alone : (q : M.Question) (ts us : List Table) (l : List F.Formula) → length ts + length us ≡ 0 → F.unlessAlone q ts us l ≡ []
-alone q [] [] l e = refl
-alone q [] (u ∷ us) l e = absurd (omega arith)
-alone q (t ∷ ts) us l e = absurd (omega arith)
+alone : (ts us : List Table) (l : List F.Formula) → length ts + length us ≡ 0 → unlessAlone ts us l ≡ []
+alone [] [] l e = refl
+alone [] (u ∷ us) l e = absurd (omega arith)
+alone (t ∷ ts) us l e = absurd (omega arith)
 
-together : (q : M.Question) (ts us : List Table) (l : List F.Formula) → 0 < length ts + length us → F.unlessAlone q ts us l ≡ l
-together q [] [] l h = absurd (omega arith)
-together q [] (u ∷ us) l h = refl
-together q (t ∷ ts) us l h = refl
+together : (ts us : List Table) (l : List F.Formula) → 0 < length ts + length us → unlessAlone ts us l ≡ l
+together [] [] l h = absurd (omega arith)
+together [] (u ∷ us) l h = refl
+together (t ∷ ts) us l h = refl
 
 abbrev newRows : Question → List M.Values
 newRows q = map (rowOf (q .shape .width)) (take (q .change .count) (q .change .rows))
 
 module _ (q : Question) (a : Able q) (w : Widths q) where
-  listed-length : length (F.inserted (questionOf q) (newRows q)) ≡ q .change .count
+  listed-length : length (F.irrelevance (questionOf q) (M.insert (newRows q))) ≡ q .change .count
   listed-length =
-      length-map (newRows q) (λ n. F.oneRow (questionOf q) (F.C (questionOf q) (F.after (questionOf q) (map M.become n) F.firstSight)))
+      length-map (newRows q) (λ n. F.oneRow (questionOf q) (C (questionOf q) (F.after (questionOf q) (map M.become n) F.firstSight)))
       ∙ length-map (take (q .change .count) (q .change .rows)) (rowOf (q .shape .width))
       ∙ length-take-le (q .change .count) (q .change .rows) (omega (arith, a .rows, a .whole .held .change .fewRows))
 
@@ -53,16 +54,16 @@ module _ (q : Question) (a : Able q) (w : Widths q) where
 
   module _ (asked : ℕ) (v : q .change .verb ≡ Insert) where
     pub first-count : asked ≡ 1 → q .change .count ≡ length (F.formulas (questionOf q) asked)
-    first-count e = sym (ap length (by q asked Insert v ∙ ap (λ b. cond b (F.inserted (questionOf q) (newRows q)) (F.unlessAlone (questionOf q) (questionOf q .front) (questionOf q .back) (F.inserted (questionOf q) (newRows q)))) (eq-eqb asked 1 e)) ∙ listed-length)
+    first-count e = sym (ap length (by q asked Insert v ∙ ap (λ b. cond b (F.irrelevance (questionOf q) (M.insert (newRows q))) (unlessAlone (questionOf q .front) (questionOf q .back) (F.irrelevance (questionOf q) (M.insert (newRows q))))) (eq-eqb asked 1 e)) ∙ listed-length)
 
-    second : (asked ≡ 1 → ⊥) → F.formulas (questionOf q) asked ≡ F.unlessAlone (questionOf q) (questionOf q .front) (questionOf q .back) (F.inserted (questionOf q) (newRows q))
-    second e = by q asked Insert v ∙ ap (λ b. cond b (F.inserted (questionOf q) (newRows q)) (F.unlessAlone (questionOf q) (questionOf q .front) (questionOf q .back) (F.inserted (questionOf q) (newRows q)))) (ne-eqb asked 1 e)
+    second : (asked ≡ 1 → ⊥) → F.formulas (questionOf q) asked ≡ unlessAlone (questionOf q .front) (questionOf q .back) (F.irrelevance (questionOf q) (M.insert (newRows q)))
+    second e = by q asked Insert v ∙ ap (λ b. cond b (F.irrelevance (questionOf q) (M.insert (newRows q))) (unlessAlone (questionOf q .front) (questionOf q .back) (F.irrelevance (questionOf q) (M.insert (newRows q))))) (ne-eqb asked 1 e)
 
     pub alone-count : (asked ≡ 1 → ⊥) → q .shape .tables ≡ 1 → 0 ≡ length (F.formulas (questionOf q) asked)
-    alone-count e one = sym (ap length (second e ∙ alone (questionOf q) (questionOf q .front) (questionOf q .back) (F.inserted (questionOf q) (newRows q)) (omega (arith, others))))
+    alone-count e one = sym (ap length (second e ∙ alone (questionOf q .front) (questionOf q .back) (F.irrelevance (questionOf q) (M.insert (newRows q))) (omega (arith, others))))
 
     pub together-count : (asked ≡ 1 → ⊥) → (q .shape .tables ≡ 1 → ⊥) → q .change .count ≡ length (F.formulas (questionOf q) asked)
-    together-count e many = sym (ap length (second e ∙ together (questionOf q) (questionOf q .front) (questionOf q .back) (F.inserted (questionOf q) (newRows q)) (omega (arith, others, a .whole .held .shape .someTable))) ∙ listed-length)
+    together-count e many = sym (ap length (second e ∙ together (questionOf q .front) (questionOf q .back) (F.irrelevance (questionOf q) (M.insert (newRows q))) (omega (arith, others, a .whole .held .shape .someTable))) ∙ listed-length)
 
 -- ---- a delete and a modify
 

@@ -10,13 +10,14 @@ use lib.Seq.{length-take-le}
 use Rattle.page_meaning.specs.Condition.{Condition}
 use Rattle.page_meaning.specs.Contents.{Table, insert, delete, modify}
 use Rattle.page_meaning.specs.Contents as M
+use Rattle.page_meaning.specs.Claims.{unlessAlone}
 use Rattle.page_questions.specs.Layout.{questionFrom}
 use Rattle.question.specs.Held.{changeBy, changeOf, rowOf, questionOf}
 use Rattle.question.specs.declared.types.Question.{Question}
 use Rattle.question.specs.declared.types.Verb.{Verb}
 use Rattle.question.specs.declared.types.Verb.the-variants.{Insert, Delete, Modify}
 use Rattle.page_formulas.specs.Formulas as F
-use Rattle.formula.specs.Able.{Able, deed, settledModes, askedOf}
+use Rattle.formula.specs.Able.{Able, deed, settledModes, askedOf, C}
 
 pub change-is : (q : Question) → questionOf q .change ≡ changeOf (q .shape .width) (q .change)
 unfolding questionOf questionFrom
@@ -41,22 +42,22 @@ only-one asked q d i h = go (eqb asked 1) h
     go false h = omega arith
 
 -- a list that is not left out is the list
-not-left-out : (q : M.Question) (ts us : List Table) (l : List F.Formula) (i : ℕ) → i < length (F.unlessAlone q ts us l) → F.unlessAlone q ts us l ≡ l
-not-left-out q [] [] l i h = absurd (omega arith)
-not-left-out q [] (u ∷ us) l i h = refl
-not-left-out q (t ∷ ts) us l i h = refl
+not-left-out : (ts us : List Table) (l : List F.Formula) (i : ℕ) → i < length (unlessAlone ts us l) → unlessAlone ts us l ≡ l
+not-left-out [] [] l i h = absurd (omega arith)
+not-left-out [] (u ∷ us) l i h = refl
+not-left-out (t ∷ ts) us l i h = refl
 
-pub by-insert : (q : Question) (asked i : ℕ) → q .change .verb ≡ Insert → i < length (F.formulas (questionOf q) asked) → F.formulas (questionOf q) asked ≡ F.inserted (questionOf q) (map (rowOf (q .shape .width)) (take (q .change .count) (q .change .rows)))
+pub by-insert : (q : Question) (asked i : ℕ) → q .change .verb ≡ Insert → i < length (F.formulas (questionOf q) asked) → F.formulas (questionOf q) asked ≡ F.irrelevance (questionOf q) (insert (map (rowOf (q .shape .width)) (take (q .change .count) (q .change .rows))))
 by-insert q asked i e h = let d = by q asked Insert e in d ∙ go (eqb asked 1) (rw d at h)
   where
     new : List M.Values
     new = map (rowOf (q .shape .width)) (take (q .change .count) (q .change .rows))
 
-    go : (b : Bool) → i < length (cond b (F.irrelevance (questionOf q) (insert new)) (F.computability (questionOf q) (insert new))) → cond b (F.irrelevance (questionOf q) (insert new)) (F.computability (questionOf q) (insert new)) ≡ F.inserted (questionOf q) new
+    go : (b : Bool) → i < length (cond b (F.irrelevance (questionOf q) (insert new)) (F.computability (questionOf q) (insert new))) → cond b (F.irrelevance (questionOf q) (insert new)) (F.computability (questionOf q) (insert new)) ≡ F.irrelevance (questionOf q) (insert new)
     go true k = refl
-    go false k = not-left-out (questionOf q) (questionOf q .front) (questionOf q .back) (F.inserted (questionOf q) new) i k
+    go false k = not-left-out (questionOf q .front) (questionOf q .back) (F.irrelevance (questionOf q) (insert new)) i k
 
 pub row-number : (q : Question) (asked i : ℕ) → Able q → q .change .verb ≡ Insert → i < length (F.formulas (questionOf q) asked) → i < q .change .count
 row-number q asked i a e h =
     let rs = take (q .change .count) (q .change .rows) in
-    omega (arith, ap length (by-insert q asked i e h), length-map (map (rowOf (q .shape .width)) rs) (λ n. F.oneRow (questionOf q) (F.C (questionOf q) (F.after (questionOf q) (map M.become n) F.firstSight))), length-map rs (rowOf (q .shape .width)), length-take-le (q .change .count) (q .change .rows) (omega (arith, a .rows, a .whole .held .change .fewRows)))
+    omega (arith, ap length (by-insert q asked i e h), length-map (map (rowOf (q .shape .width)) rs) (λ n. F.oneRow (questionOf q) (C (questionOf q) (F.after (questionOf q) (map M.become n) F.firstSight))), length-map rs (rowOf (q .shape .width)), length-take-le (q .change .count) (q .change .rows) (omega (arith, a .rows, a .whole .held .change .fewRows)))

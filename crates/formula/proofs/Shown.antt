@@ -9,7 +9,7 @@ use lib.ListN.{length, getD, take, drop, length-map, List·getD-map, drop-of-len
 use lib.Seq.{getD-take}
 use Rattle.page_meaning.specs.Condition.{unequal}
 use Rattle.page_meaning.specs.Contents.{Range, Mode}
-use Rattle.page_meaning.specs.Trouble.{modeAt, kept}
+use Rattle.page_meaning.specs.Claims.{modeAt, kept}
 use Rattle.page_questions.specs.Layout.{visibleFrom, questionFrom}
 use Rattle.page_questions.specs.Layout as L
 use Rattle.question.specs.Held.{columnOf, questionOf}

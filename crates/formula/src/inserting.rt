@@ -12,7 +12,8 @@ ghost use mathlib.Core.List.{map};
 ghost use Prim.Native.Nat.{_<_};
 ghost use lib.ListN.{take};
 ghost use Rattle.question.specs.Held.{rowOf, questionOf};
-ghost use Rattle.page_formulas.specs.Formulas as trouble;
+ghost use Rattle.page_meaning.specs.Contents.{insert};
+ghost use Rattle.page_formulas.specs.Formulas.{irrelevance};
 ghost use Rattle.program.specs.Compiled.{Compiled};
 ghost use Rattle.formula.specs.Able.{Able, Becomes, PutIn, formulaAt};
 
@@ -46,7 +47,7 @@ pub fn put_in(q: Question, row: Row) -> Sight
 
 pub fn inserted(q: Question, i: usize) -> Formula
     requires { ⌜ Able q × (i < q .change .count) ⌝ }
-    ensures { λ r. ⌜ Compiled r (formulaAt (trouble.inserted (questionOf q) (map (rowOf (q .shape .width)) (take (q .change .count) (q .change .rows)))) i) ⌝ }
+    ensures { λ r. ⌜ Compiled r (formulaAt (irrelevance (questionOf q) (insert (map (rowOf (q .shape .width)) (take (q .change .count) (q .change .rows))))) i) ⌝ }
 {
     let change = q.change;
     let row = change.rows[i];

@@ -19,7 +19,7 @@ use program::types::Joint;
 use question::types::Question;
 ghost use Rattle.page_meaning.specs.Contents.{delete, modify};
 ghost use Rattle.question.specs.Held.{questionOf};
-ghost use Rattle.page_formulas.specs.Formulas.{irrelevance, computability, entering};
+ghost use Rattle.page_formulas.specs.Formulas.{irrelevance, computability};
 ghost use Rattle.program.specs.Compiled.{Compiled};
 ghost use Rattle.formula.specs.Able.{Chooses, Modifies, deed, settledModes, formulaAt};
 
@@ -68,7 +68,7 @@ pub fn leaves(q: Question) -> Formula
 // "M and not C and C(F)"
 pub fn enters(q: Question) -> Formula
     requires { ⌜ Modifies q ⌝ }
-    ensures { λ r. ⌜ Compiled r (entering (questionOf q) (deed q) (settledModes q)) ⌝ }
+    ensures { λ r. ⌜ Compiled r (formulaAt (irrelevance (questionOf q) (modify (deed q) (settledModes q))) 1) ⌝ }
 {
     let s = moved(q, false);
     let a = changing(blank(), q, s);

@@ -9,7 +9,7 @@ use lib.ListN.{length, getD, length-map}
 use lib.Dec.{T}
 use Rattle.page_meaning.specs.Contents.{Question, Mode, keep, become, shift, Range, columns, first}
 use Rattle.page_meaning.specs.WellFormed.{Reads}
-use Rattle.page_meaning.specs.Trouble.{modeAt}
+use Rattle.page_meaning.specs.Claims.{modeAt}
 use Rattle.page_questions.specs.Accepted.{Every, RangeOk, ModeOk}
 use Rattle.page_formulas.specs.Compile.{Sight}
 use Rattle.page_formulas.specs.Vertices.{Ranges, present, isSome}

@@ -8,7 +8,8 @@ use lib.Signed.{leZ}
 use Rattle.page_meaning.specs.Condition.{Row, holds, unequal, atMost, atLeast}
 use Rattle.page_meaning.specs.Contents.{Question, Mode, keep, become, shift, Range, Table, first, inRange, newValue}
 use Rattle.page_meaning.specs.WellFormed.{Reads}
-use Rattle.page_meaning.specs.Trouble.{modeAt, moved, kept, newFits, differOver}
+use Rattle.page_meaning.specs.Claims.{modeAt, kept}
+use Rattle.page_meaning.specs.Trouble.{moved, newFits, differOver}
 use Rattle.page_questions.specs.Accepted.{Every}
 use Rattle.page_formulas.specs.Program.{Values, Term, value, Program, andI, orI, run}
 use Rattle.page_formulas.specs.Compile.{Sight, comparison, constantTerm, plus}

@@ -1,4 +1,4 @@
--- The trouble lists of 01 as programs over vertices: "Formulas count from 0, parts in the order written."
+-- The trouble lists as programs over vertices (FORMAT 5).
 use Prim.Native.Nat.{ℕ, zero, suc, _+_}
 use mathlib.Core.Bool.{Bool, true, false, _||_, cond}
 use mathlib.Core.Option.{none, some}
@@ -7,12 +7,12 @@ use lib.ListN.{length, take, drop}
 use lib.Dec.{eqb}
 use lib.IntN.{ℤ, pos}
 use Rattle.page_meaning.specs.Condition.{Condition, atMost, atLeast, unequal}
-use Rattle.page_meaning.specs.Contents.{Question, Change, insert, delete, modify, Mode, keep, become, shift, Range, Table, columns, look, first}
+use Rattle.page_meaning.specs.Contents.{Question, Change, Mode, keep, become, shift, Range, Table, columns, look, first}
 use Rattle.page_meaning.specs.Contents as M
-use Rattle.page_meaning.specs.Trouble.{modeAt, kept}
+use Rattle.page_meaning.specs.Claims.{Line, single, double, modeAt, kept, Reading, readParts, formulasBy}
 use Rattle.page_formulas.specs.Program.{Program, Term, Values, andI, orI, falseI}
 use Rattle.page_formulas.specs.Compile.{Sight, comparison, constantTerm, plus}
-use Rattle.page_formulas.specs.Parts.{_and_, _or_, denied, conditionProgram}
+use Rattle.page_formulas.specs.Parts.{joined, denied, conditionProgram}
 use Rattle.page_formulas.specs.Vertices.{Ranges}
 
 -- its vertices' ranges; whether it speaks of two rows; its program
@@ -26,7 +26,7 @@ pub record Formula : Type 0 where
 abbrev pub vertex : ℕ → Term
 vertex v = record { vertex = v; offset = pos 0 }
 
--- "1+i column i of the first row"
+-- FORMAT 5.4: vertex 1 + i is column i of the first row
 abbrev pub firstSight : Sight
 firstSight i = vertex (suc i)
 
@@ -35,7 +35,7 @@ unfoldable pub among : List ℕ → ℕ → Bool
 among [] i = false
 among (j ∷ js) i = eqb j i || among js i
 
--- "1+n+i column i of the second where column i is hidden, n columns in all"; the rows "share their visible columns"
+-- FORMAT 5.4: 1 + n + i is column i of the second row if that column is hidden; a visible one is the first row's
 abbrev pub secondSight : Question → Sight
 secondSight q i = vertex (cond (among (q .visible) i) (suc i) (suc (length (columns q) + i)))
 
@@ -45,13 +45,13 @@ newTerm keep σ old = old
 newTerm (become k) σ old = constantTerm k
 newTerm (shift j k) σ old = plus (σ j) k
 
--- "F is the modify applied to a full row"
+-- F: the row after the modify
 unfoldable pub after : Question → List Mode → Sight → Sight
 after q ms σ i = newTerm (modeAt q ms i) σ (σ i)
 
 -- ---- what its vertices range over
 
--- "An insert keeps its changed table's vertices, with their ranges only": every column of the first row has its vertex
+-- every column of the first row has its vertex, of an insert too (FORMAT 5.4)
 abbrev pub firstRanges : List Range → Ranges
 firstRanges gs = map some gs
 
@@ -71,7 +71,7 @@ twoRows q p = record { ranges = bothRanges q; pairs = true; program = p }
 
 -- ---- parts
 
--- "new ≤ hi and new ≥ lo", each joined to what stands before it
+-- new value ≤ hi, new value ≥ lo (FORMAT 5.2), each joined to what stands before it
 abbrev pub bounded : Term → Range → Program
 bounded t g = comparison atMost t (constantTerm (g .hi)) ++ (andI ∷ (comparison atLeast t (constantTerm (g .lo)) ++ (andI ∷ [])))
 
@@ -80,13 +80,13 @@ boundedNew keep σ g = []
 boundedNew (become k) σ g = bounded (constantTerm k) g
 boundedNew (shift j k) σ g = bounded (plus (σ j) k) g
 
--- "for each column not kept, in order"
+-- for each column whose mode isn't 0, in order
 unfoldable pub boundedAll : Sight → Table → List Mode → Program
 boundedAll σ [] ms = []
 boundedAll σ (g ∷ gs) [] = []
 boundedAll σ (g ∷ gs) (m ∷ ms) = boundedNew m σ g ++ boundedAll σ gs ms
 
--- "some visible column not kept has new ≠ old, joined by or in column order (false if there is none)"
+-- for each visible column whose mode isn't 0, in order: the one value ≠ the other, joined to what stands before it
 abbrev pub differsNew : Mode → Term → Term → Program
 differsNew m a b = cond (kept m) [] (comparison unequal a b ++ (orI ∷ []))
 
@@ -94,63 +94,25 @@ unfoldable pub differsOver : (ℕ → Mode) → Sight → Sight → List ℕ →
 differsOver mode σ τ [] = []
 differsOver mode σ τ (i ∷ is) = differsNew (mode i) (σ i) (τ i) ++ differsOver mode σ τ is
 
-abbrev pub differs : Question → List Mode → Sight → Sight → Program
-differs q ms σ τ = falseI ∷ differsOver (modeAt q ms) σ τ (q .visible)
-
 -- ---- the lists
 
 module _ (q : Question) where
-  abbrev pub C : Sight → Program
-  C σ = conditionProgram σ (q .condition)
+  -- the words of the table (FORMAT 5.2), as programs; differ begins with false
+  abbrev pub programs : Condition → List Mode → Reading Sight Program
+  programs d ms = record { F = after q ms; C = λ σ. conditionProgram σ (q .condition); D = λ σ. conditionProgram σ d; M = λ σ. conditionProgram σ d ++ boundedAll σ (q .changed) ms; differ = λ σ τ. falseI ∷ differsOver (modeAt q ms) σ τ (q .visible); deny = denied; both = joined andI; either = joined orI }
 
-  -- "M: its condition, then for each column not kept, in order, new ≤ hi and new ≥ lo"
-  abbrev pub moves : Condition → List Mode → Sight → Program
-  moves d ms σ = conditionProgram σ d ++ boundedAll σ (q .changed) ms
+  -- a line of the table
+  abbrev pub formula : Condition → List Mode → Line → Formula
+  formula d ms (single p ps) = oneRow q (readParts (programs d ms) (λ i. firstSight) p ps)
+  formula d ms (double p ps) = twoRows q (readParts (programs d ms) (λ i. cond i (secondSight q) firstSight) p ps)
 
-  -- "S = (not M) or C(F)"
-  abbrev pub S : Condition → List Mode → Sight → Program
-  S d ms σ = denied (moves d ms σ) or C (after q ms σ)
-
-  -- "Insert: for each row, C with that row's values put in"
-  abbrev pub inserted : List M.Values → List Formula
-  inserted new = map (λ n. oneRow q (C (after q (map become n) firstSight))) new
-
-  -- "M and not C and C(F)"
-  abbrev pub entering : Condition → List Mode → Formula
-  entering d ms = let σ = firstSight in oneRow q (moves d ms σ and denied (C σ) and C (after q ms σ))
-
-  -- "Asked 1 (irrelevant)"
+  -- asked 1
   abbrev pub irrelevance : Change → List Formula
-  irrelevance (insert new) = inserted new
-  irrelevance (delete d) = oneRow q (C firstSight and conditionProgram firstSight d) ∷ []
-  irrelevance (modify d ms) =
-      let σ = firstSight in
-      let F = after q ms σ in
-      oneRow q (moves d ms σ and C σ and denied (C F)) ∷ entering d ms ∷ oneRow q (moves d ms σ and C σ and C F and differs q ms F σ) ∷ []
+  irrelevance ch = formulasBy formula q ch true
 
-  -- "none if the list has one table"
-  abbrev pub unlessAlone : List Table → List Table → List Formula → List Formula
-  unlessAlone [] [] l = []
-  unlessAlone [] (t ∷ ts) l = l
-  unlessAlone (t ∷ ts) us l = l
-
-  -- "Asked 2 (computable)"
+  -- asked 2
   abbrev pub computability : Change → List Formula
-  computability (insert new) = unlessAlone (q .front) (q .back) (inserted new)
-  computability (delete d) =
-      let σ = firstSight in
-      let τ = secondSight q in
-      twoRows q (C σ and C τ and conditionProgram σ d and denied (conditionProgram τ d)) ∷ []
-  computability (modify d ms) =
-      let σ = firstSight in
-      let τ = secondSight q in
-      let F = after q ms σ in
-      let G = after q ms τ in
-      entering d ms
-      ∷ twoRows q (C σ and C τ and S d ms σ and denied (S d ms τ))
-      ∷ twoRows q (C σ and C τ and moves d ms σ and moves d ms τ and C F and C G and differs q ms F G)
-      ∷ twoRows q (C σ and C τ and moves d ms σ and denied (moves d ms τ) and C F and differs q ms F τ)
-      ∷ []
+  computability ch = formulasBy formula q ch false
 
   -- the formulas of the verdict asked for
   abbrev pub formulas : ℕ → List Formula
@@ -177,7 +139,7 @@ rowOf1 q ρ = rowBy q ρ firstSight
 abbrev pub rowOf2 : Question → Values → M.Values
 rowOf2 q ρ = rowBy q ρ (secondSight q)
 
--- "For insert, the changed table's values are the inserted row's"
+-- FORMAT 7.2: for an insert the changed table's values are the inserted row's
 abbrev pub putIn : Question → M.Values → M.Values → M.Values
 putIn q new u = take (first q) u ++ (new ++ drop (length (q .changed)) (drop (first q) u))
 

@@ -3,6 +3,7 @@ pub mod Compile
 pub mod Parts
 pub mod Vertices
 pub mod Formulas
+pub mod Costs
 pub mod Known
 pub mod Kinds
 pub mod Said

@@ -1,18 +1,19 @@
 -- What the code may take for granted of every formula of an accepted question (`formulas-proper`): few vertices, small ranges,
 -- places between its vertices with small constants, and a program that fits the code's room. No demand rests on it.
-use Prim.Native.Nat.{ℕ, suc, _+_, _*_, _≤_, _<_}
+use Prim.Native.Nat.{ℕ, suc, _*_, _≤_, _<_}
 use mathlib.Core.Option.{Option, none, some}
 use lib.ListN.{length}
 use lib.Dec.{T}
 use lib.Signed.{_≤ℤ_}
 use Rattle.page_numbers.specs.Numbers.{up, dn}
-use Rattle.page_meaning.specs.Limits.{mostTokens, mostComparisons, mostColumns, mostVertices, mostDecisions}
+use Rattle.page_meaning.specs.Limits.{mostVertices, mostDecisions}
 use Rattle.page_meaning.specs.Contents.{Range}
 use Rattle.page_questions.specs.Accepted.{Every}
 use Rattle.page_formulas.specs.Program.{Place, places}
 use Rattle.page_formulas.specs.Vertices.{Ranges, present}
 use Rattle.page_formulas.specs.Formulas.{Formula}
 use Rattle.page_formulas.specs.Form.{Formed}
+use Rattle.page_formulas.specs.Costs.{mostInstructions}
 
 -- what a range's ends and a constant of the question reach
 abbrev pub billion : ℕ
@@ -31,10 +32,6 @@ pub record SmallPlace (rs : Ranges) (p : Place) : Type 0 where
   pub right-is : T (present rs (p .right))
   pub high : up (p .most) ≤ highest
   pub low : dn (p .most) ≤ suc highest
-
--- six conditions, the range tests of two rows, one comparison of rows, and what joins them
-abbrev pub mostInstructions : ℕ
-mostInstructions = 6 * (mostTokens + 3 * mostComparisons) + 13 * mostColumns + 7
 
 abbrev pub Nonempty : Option Range → Type 0
 Nonempty none = Unit {0}

@@ -4,7 +4,9 @@ use mathlib.Core.Logic.{_⊎_, inl, inr}
 use mathlib.Core.List.{List, [], _∷_, _++_, map}
 use lib.Dec.{T}
 use Rattle.page_meaning.specs.Contents.{Question, insert, Values, Table, TableFits, TablesFit, Joined, _∈_, each, columnsOf, look, part, Contents, Valid, values, row, Listed, afterBy}
-use Rattle.page_meaning.specs.Trouble.{Formula, one, All, Met, AllFail, C, put, inserted, unlessAlone}
+use Rattle.page_meaning.specs.Claims.{unlessAlone}
+use Rattle.page_meaning.specs.Trouble.{Formula, one, All, Met, AllFail, irrelevance}
+use Rattle.page_meaning.proofs.Words.{C, put}
 use Rattle.page_meaning.specs.Witness.{cut, none, witness}
 use Rattle.page_meaning.proofs.Moving.{Wide, with, fits-length, put-same}
 use Rattle.page_meaning.proofs.Tables.{joined-fits, fits-append, cut-fits, cut-values, alone-joined}
@@ -33,7 +35,7 @@ none-join t ts us e s j = subst (λ l. Joined (none l) s) e j .2
 
 module _ (q : Question) (new : List Values) (ok : TableFits (q .changed) new) where
   -- formulas that fail: no full row with an inserted row meets C
-  barren : AllFail q (inserted q new) → (c : Contents) → Valid q c → (v : Values) → ¬ Listed q (adding (insert new) c) v
+  barren : AllFail q (irrelevance q (insert new)) → (c : Contents) → Valid q c → (v : Values) → ¬ Listed q (adding (insert new) c) v
   barren f c o v t = let x = t .0 in let n = x .here in let h = t .1 .here in
       let b = joined-fits (q .front) (c .front) (o .front) (x .before) (t .1 .before) in
       let a = joined-fits (q .back) (c .back) (o .back) (x .after) (t .1 .after) in
@@ -41,7 +43,7 @@ module _ (q : Question) (new : List Values) (ok : TableFits (q .changed) new) wh
       let i : InRange q (values x) = fits-append (columnsOf (q .front)) (q .changed ++ columnsOf (q .back)) (x .before) (n ++ x .after) b (fits-append (q .changed) (columnsOf (q .back)) n (x .after) (ok n h) a) in
       all-at (λ φ. ¬ Met q φ) (λ n. one (λ r. C q (put q n r))) new f n h (values x, i, rw (← put-same q x w n (ok n h)) (t .2 .0))
 
-  fresh : (a b : List Table) → q .front ≡ a → q .back ≡ b → AllFail q (unlessAlone q a b (inserted q new)) → (c d : Contents) → Valid q c → Valid q d → (v : Values) → Listed q (adding (insert new) c) v → Listed q (adding (insert new) d) v
+  fresh : (a b : List Table) → q .front ≡ a → q .back ≡ b → AllFail q (unlessAlone a b (irrelevance q (insert new))) → (c d : Contents) → Valid q c → Valid q d → (v : Values) → Listed q (adding (insert new) c) v → Listed q (adding (insert new) d) v
   fresh [] [] e g h c d o p v t = (
     t .0,
     record {
@@ -63,13 +65,13 @@ module _ (q : Question) (new : List Values) (ok : TableFits (q .changed) new) wh
       (with (cut q u) n, record { before = alone-joined (q .front) (cut q u .before) (k .before); here = h; after = alone-joined (q .back) (cut q u .after) (k .after) }, (subst (λ r. T (C q r)) (sym e) t, ap (part q) e))
 
   -- no full row before; none after either where another table is empty
-  against-empty : ((s : Values) → ¬ Joined (none (q .front)) s) ⊎ ((s : Values) → ¬ Joined (none (q .back)) s) → All (Broken2 q (insert new)) (inserted q new)
+  against-empty : ((s : Values) → ¬ Joined (none (q .front)) s) ⊎ ((s : Values) → ¬ Joined (none (q .back)) s) → All (Broken2 q (insert new)) (irrelevance q (insert new))
   against-empty f = all-map (Broken2 q (insert new)) (λ n. one (λ r. C q (put q n r))) new (λ n h m. (
     λ v. (λ s. absurd (s .1 .here), λ s. absurd (s .1 .here)),
     λ same. let s = same (part q (put q n (look (m .0)))) .0 (insert-listed n h (m .0) (m .1) (m .2)) in elim f [ inl g ↦ g (s .0 .before) (s .1 .before) | inr g ↦ g (s .0 .after) (s .1 .after) ],
   ))
 
-  unless-alone : (a b : List Table) → q .front ≡ a → q .back ≡ b → All (Broken2 q (insert new)) (unlessAlone q a b (inserted q new))
+  unless-alone : (a b : List Table) → q .front ≡ a → q .back ≡ b → All (Broken2 q (insert new)) (unlessAlone a b (irrelevance q (insert new)))
   unless-alone [] [] e g = tt
   unless-alone [] (t ∷ ts) e g = against-empty (inr (none-join t ts (q .back) g))
   unless-alone (t ∷ ts) us e g = against-empty (inl (none-join t ts (q .front) e))

@@ -1,6 +1,7 @@
 pub mod Limits
 pub mod Condition
 pub mod Contents
+pub mod Claims
 pub mod WellFormed
 pub mod Trouble
 pub mod Witness

@@ -11,7 +11,9 @@ use lib.Dec.{T}
 use lib.IntN.{ℤ}
 use Rattle.page_meaning.specs.Condition.{Condition, Row}
 use Rattle.page_meaning.specs.Contents.{Values, look, _∈_, Table, fits, Mode, keep, become, Change, insert, delete, modify, Question, columns, first, newValue}
-use Rattle.page_meaning.specs.Trouble.{Formula, one, two, moved, put, C, inserted, irrelevance, unlessAlone, computability}
+use Rattle.page_meaning.specs.Claims.{unlessAlone}
+use Rattle.page_meaning.specs.Trouble.{Formula, one, two, moved, irrelevance, computability}
+use Rattle.page_meaning.proofs.Words.{C, put}
 use Rattle.page_meaning.specs.WellFormed.{ChangeOk}
 use Rattle.page_formulas.specs.Formulas.{putIn}
 use Rattle.page_formulas.proofs.Inserts.{putIn-fits, putIn-put, putIn-same}
@@ -65,7 +67,7 @@ matches-own : (o : Option ℤ) (z : ℤ) → T (matches o (orElse o z))
 matches-own none z = tt
 matches-own (some k) z = is-equal k k refl
 
-puts-inserted : (q : Question) (rows : List Values) (i : ℕ) (new : List Values) → ((k : ℕ) → getD rows (i + k) [] ≡ getD new k []) → ((r : Values) → r ∈ new → T (fits (q .changed) r)) → AllFrom (Puts q (insert rows)) i (inserted q new)
+puts-inserted : (q : Question) (rows : List Values) (i : ℕ) (new : List Values) → ((k : ℕ) → getD rows (i + k) [] ≡ getD new k []) → ((r : Values) → r ∈ new → T (fits (q .changed) r)) → AllFrom (Puts q (insert rows)) i (irrelevance q (insert new))
 puts-inserted q rows i [] e h = tt
 puts-inserted q rows i (n ∷ new) e h = (here, puts-inserted q rows (suc i) new (λ k. let d : suc i + k ≡ i + suc k = omega arith in rw d (e (suc k))) (λ r m. h r (inr m)))
   where
@@ -81,10 +83,10 @@ puts-inserted q rows i (n ∷ new) e h = (here, puts-inserted q rows (suc i) new
           same = rw is (ap (C q) (putIn-same q n v b t));
         }
 
-unless-from : (P : ℕ → Formula → Type 0) (q : Question) (ts us : List Table) (φs : List Formula) → AllFrom P 0 φs → AllFrom P 0 (unlessAlone q ts us φs)
-unless-from P q [] [] φs a = tt
-unless-from P q [] (u ∷ us) φs a = a
-unless-from P q (t ∷ ts) us φs a = a
+unless-from : (P : ℕ → Formula → Type 0) (ts us : List Table) (φs : List Formula) → AllFrom P 0 φs → AllFrom P 0 (unlessAlone ts us φs)
+unless-from P [] [] φs a = tt
+unless-from P [] (u ∷ us) φs a = a
+unless-from P (t ∷ ts) us φs a = a
 
 -- where nothing is inserted
 none-at : (n j : ℕ) → _≡_ {A = Option ℤ} (getD (replicate n none ++ []) j none) none
@@ -116,6 +118,6 @@ module _ (q : Question) where
   irrelevance-puts (modify d ms) ok = let s = modify-still d ms in (still-one (modify d ms) s 0 _, (still-one (modify d ms) s 1 _, (still-one (modify d ms) s 2 _, tt)))
 
   pub computability-puts : (ch : Change) → ChangeOk q ch → AllFrom (Puts q ch) 0 (computability q ch)
-  computability-puts (insert new) ok = unless-from (Puts q (insert new)) q (q .front) (q .back) (inserted q new) (puts-inserted q new 0 new (λ k. ap (λ m. getD new m []) (omega arith)) ok)
+  computability-puts (insert new) ok = unless-from (Puts q (insert new)) (q .front) (q .back) (irrelevance q (insert new)) (puts-inserted q new 0 new (λ k. ap (λ m. getD new m []) (omega arith)) ok)
   computability-puts (delete d) ok = (still-two (delete d) (delete-still d) 0, tt)
   computability-puts (modify d ms) ok = let s = modify-still d ms in (still-one (modify d ms) s 0 _, (still-two (modify d ms) s 1, (still-two (modify d ms) s 2, (still-two (modify d ms) s 3, tt))))

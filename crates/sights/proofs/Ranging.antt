@@ -8,7 +8,7 @@ use lib.ListN.{length, getD, drop, length-map, drop-of-length-le}
 use lib.Seq.{getD-take, getD-drop, length-take-le}
 use lib.Dec.{T}
 use Rattle.page_meaning.specs.Contents.{Range, Mode, keep, become, shift}
-use Rattle.page_meaning.specs.Trouble.{kept}
+use Rattle.page_meaning.specs.Claims.{kept}
 use Rattle.question.specs.Held.{columnOf, rangesOf, questionOf}
 use Rattle.question.specs.declared.types.Question.{Question}
 use Rattle.page_formulas.specs.Program as P

@@ -14,7 +14,7 @@ use Rattle.page_numbers.proofs.Bridge.{ints, +law}
 use Rattle.page_numbers.proofs.Machine.{machine}
 use Rattle.page_meaning.specs.Contents.{Mode, keep, become, shift, columns, first}
 use Rattle.page_meaning.specs.Contents as M
-use Rattle.page_meaning.specs.Trouble.{modeAt}
+use Rattle.page_meaning.specs.Claims.{modeAt}
 use Rattle.page_meaning.specs.WellFormed.{Reads}
 use Rattle.question.specs.Held.{settingOf, questionOf}
 use Rattle.question.specs.declared.types.Question.{Question}

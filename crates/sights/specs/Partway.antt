@@ -9,7 +9,7 @@ use Rattle.page_meaning.specs.Limits.{mostTokens, mostComparisons}
 use Rattle.page_meaning.specs.Condition.{Token, compare, both, either, negate}
 use Rattle.page_meaning.specs.Condition as M
 use Rattle.page_meaning.specs.Contents.{Range, keep}
-use Rattle.page_meaning.specs.Trouble.{modeAt}
+use Rattle.page_meaning.specs.Claims.{modeAt}
 use Rattle.page_meaning.specs.WellFormed.{Uses}
 use Rattle.page_questions.specs.Reader.{comparisons}
 use Rattle.question.specs.Held.{conditionOf, questionOf}

@@ -9,7 +9,7 @@ use lib.Signed.{_≤ℤ_}
 use Rattle.page_meaning.specs.Limits.{mostColumns}
 use Rattle.page_meaning.specs.Contents.{Mode, keep, become, shift}
 use Rattle.page_meaning.specs.Contents as M
-use Rattle.page_meaning.specs.Trouble.{modeAt}
+use Rattle.page_meaning.specs.Claims.{modeAt}
 use Rattle.page_meaning.specs.WellFormed.{Reads}
 use Rattle.question.specs.Held.{settingOf, questionOf, Held}
 use Rattle.question.specs.declared.types.Question.{Question}

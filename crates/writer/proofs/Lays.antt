@@ -9,9 +9,10 @@ use lib.Dec.{eqb}
 use lib.ListN.{length, getD, length-map}
 use Rattle.page_meaning.specs.Contents.{Table, Change, insert, delete, modify, Question}
 use Rattle.page_meaning.specs.Contents as M
+use Rattle.page_meaning.specs.Claims.{unlessAlone}
 use Rattle.page_meaning.specs.Limits.{mostRows}
 use Rattle.page_questions.specs.Accepted.{Accepted, ChangeAccepted}
-use Rattle.page_formulas.specs.Formulas.{Formula, inserted, unlessAlone, irrelevance, computability, formulas, noFormula}
+use Rattle.page_formulas.specs.Formulas.{Formula, irrelevance, computability, formulas, noFormula}
 use Rattle.page_formulas.specs.Program.{Values}
 use Rattle.page_formulas.specs.Proper.{Proper}
 use Rattle.page_formulas.proofs.Proper.{formulas-proper}
@@ -53,14 +54,14 @@ module _ (mid sheet new : List ℕ) (s : Spot) (e : filling new s ≡ puts (fill
 
 -- ---- how many formulas there are: their numbers are bytes
 module _ (q : Question) where
-  unless-fewer : (ts us : List Table) (Fs : List Formula) → length (unlessAlone q ts us Fs) ≤ length Fs
+  unless-fewer : (ts us : List Table) (Fs : List Formula) → length (unlessAlone ts us Fs) ≤ length Fs
   unless-fewer [] [] Fs = omega arith
   unless-fewer [] (u ∷ us) Fs = omega arith
   unless-fewer (t ∷ ts) us Fs = omega arith
 
   few : (ch : Change) → ChangeAccepted ch → (b : Bool) → length (cond b (irrelevance q ch) (computability q ch)) ≤ mostRows
-  few (insert new) h true = let e : length (inserted q new) ≡ length new = length-map new _ in omega (arith, e, h)
-  few (insert new) h false = let e : length (inserted q new) ≡ length new = length-map new _ in omega (arith, unless-fewer (q .front) (q .back) (inserted q new), e, h)
+  few (insert new) h true = let e : length (irrelevance q (insert new)) ≡ length new = length-map new _ in omega (arith, e, h)
+  few (insert new) h false = let e : length (irrelevance q (insert new)) ≡ length new = length-map new _ in omega (arith, unless-fewer (q .front) (q .back) (irrelevance q (insert new)), e, h)
   few (delete d) h true = omega arith
   few (delete d) h false = omega arith
   few (modify d ms) h true = omega arith

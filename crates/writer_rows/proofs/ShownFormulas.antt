@@ -8,12 +8,13 @@ use native.Mathlib.Omega.{arith}
 use lib.Dec.{eqb}
 use lib.ListN.{length, getD, length-map, length-append}
 use Rattle.page_meaning.specs.Contents.{Values, _∈_, Table, Change, insert, delete, modify, Question, columns}
+use Rattle.page_meaning.specs.Claims.{unlessAlone}
 use Rattle.page_meaning.specs.WellFormed.{WellFormed, ChangeOk}
 use Rattle.page_meaning.proofs.Moving.{fits-length}
 use Rattle.page_questions.specs.Accepted.{Every}
 use Rattle.question.specs.Held.{questionOf}
 use Rattle.question.specs.declared.types.Question as D
-use Rattle.page_formulas.specs.Formulas.{Formula, firstRanges, bothRanges, hiddenRanges, inserted, unlessAlone, irrelevance, computability, formulas}
+use Rattle.page_formulas.specs.Formulas.{Formula, firstRanges, bothRanges, hiddenRanges, irrelevance, computability, formulas}
 use Rattle.sights.specs.Seen.{Whole}
 use Rattle.page_formulas.proofs.Present.{hidden-length}
 use Rattle.page_sheets.specs.Rows.{fields, Wide}
@@ -31,11 +32,11 @@ module _ (q : Question) where
   two : length (bothRanges q) ≡ length (columns q) + length (columns q)
   two = length-append (firstRanges (columns q)) (hiddenRanges (q .visible) 0 (columns q)) ∙ ap₂ _+_ one (hidden-length (q .visible) 0 (columns q))
 
-  each : (new : List Values) → Every Spans (inserted q new)
+  each : (new : List Values) → Every Spans (irrelevance q (insert new))
   each [] = tt
   each (n ∷ new) = (one, each new)
 
-  unless : (ts us : List Table) (Fs : List Formula) → Every Spans Fs → Every Spans (unlessAlone q ts us Fs)
+  unless : (ts us : List Table) (Fs : List Formula) → Every Spans Fs → Every Spans (unlessAlone ts us Fs)
   unless [] [] Fs h = tt
   unless [] (u ∷ us) Fs h = h
   unless (t ∷ ts) us Fs h = h
@@ -46,7 +47,7 @@ module _ (q : Question) where
   asked-one (modify d ms) = (one, (one, (one, tt)))
 
   asked-two : (ch : Change) → Every Spans (computability q ch)
-  asked-two (insert new) = unless (q .front) (q .back) (inserted q new) (each new)
+  asked-two (insert new) = unless (q .front) (q .back) (irrelevance q (insert new)) (each new)
   asked-two (delete d) = (two, tt)
   asked-two (modify d ms) = (one, (two, (two, (two, tt))))
 
@@ -68,7 +69,7 @@ module _ (q : Question) where
 
   -- ---- an inserted row's values
 
-  unless-few : (ts us : List Table) (Fs : List Formula) (i : ℕ) → i < length (unlessAlone q ts us Fs) → i < length Fs
+  unless-few : (ts us : List Table) (Fs : List Formula) (i : ℕ) → i < length (unlessAlone ts us Fs) → i < length Fs
   unless-few [] [] Fs i h = absurd (omega arith)
   unless-few [] (u ∷ us) Fs i h = h
   unless-few (t ∷ ts) us Fs i h = h
@@ -78,12 +79,12 @@ module _ (q : Question) where
   row-wide t (r ∷ rows) zero f h = f r (inl refl)
   row-wide t (r ∷ rows) (suc i) f h = row-wide t rows i (λ s m. f s (inr m)) (omega arith)
 
-  row-inserted : (new : List Values) → ChangeOk q (insert new) → (i : ℕ) → i < length (inserted q new) → length (getD new i []) ≡ length (q .changed)
+  row-inserted : (new : List Values) → ChangeOk q (insert new) → (i : ℕ) → i < length (irrelevance q (insert new)) → length (getD new i []) ≡ length (q .changed)
   row-inserted new ok i h = row-wide (q .changed) new i (λ r m. fits-length (q .changed) r (ok r m)) (rw (length-map new _) at h)
 
   wide : (ch : Change) → ChangeOk q ch → (b : Bool) (i : ℕ) → i < length (cond b (irrelevance q ch) (computability q ch)) → Wide q ch i
   wide (insert new) ok true i h = row-inserted new ok i h
-  wide (insert new) ok false i h = row-inserted new ok i (unless-few (q .front) (q .back) (inserted q new) i h)
+  wide (insert new) ok false i h = row-inserted new ok i (unless-few (q .front) (q .back) (irrelevance q (insert new)) i h)
   wide (delete d) ok b i h = tt
   wide (modify d ms) ok b i h = tt
 

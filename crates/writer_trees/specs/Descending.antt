@@ -14,7 +14,8 @@ use Rattle.page_walks.specs.Near.{relax}
 use Rattle.page_formulas.specs.Formulas.{Formula}
 use Rattle.page_formulas.specs.Known.{Three, fails, passes, open?}
 use Rattle.page_formulas.specs.Program.{Program, Values}
-use Rattle.page_formulas.specs.Proper.{Proper, mostInstructions}
+use Rattle.page_formulas.specs.Costs.{mostInstructions}
+use Rattle.page_formulas.specs.Proper.{Proper}
 use Rattle.program.specs.Lent.{Lent}
 use Rattle.program.specs.Compiled.{Compiled}
 use Rattle.program.specs.declared.types.Formula as compiled

@@ -1,7 +1,7 @@
 use mathlib.Core.Path.{sym, ap, ap₂, _∙_}
 use mathlib.Core.List.{[], _∷_, _++_}
 use Rattle.page_meaning.specs.Condition.{unequal}
-use Rattle.page_meaning.specs.Trouble.{kept}
+use Rattle.page_meaning.specs.Claims.{kept}
 use Rattle.page_formulas.specs.Program.{orI}
 use Rattle.page_formulas.specs.Compile.{comparison}
 use Rattle.sights.proofs.Ranging.{builds-none}

@@ -5,7 +5,7 @@ use Rattle.page_formulas.specs.Formulas.{bounded}
 use Rattle.sights.specs.Seen.{noColumn}
 use Rattle.program.proofs.Weights.{said}
 use mathlib.Core.Path.{sym, ap, _∙_}
-use Rattle.page_meaning.specs.Trouble.{kept}
+use Rattle.page_meaning.specs.Claims.{kept}
 use Rattle.sights.proofs.Sightings.{stands-near}
 use Rattle.sights.proofs.Ranging.{builds-none, test-none, test-is}
 use borrow.Author.Needs.{needs}
