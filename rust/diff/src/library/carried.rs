@@ -9,13 +9,26 @@ use std::path::Path;
 use std::process::{Child, Stdio};
 
 thread_local! {
-    /// A carrier for each thread; it ends with the thread, when its input does.
-    static CARRIER: RefCell<Child> = RefCell::new(start());
+    /// A carrier for each thread.
+    static CARRIER: RefCell<Carrier> = RefCell::new(Carrier::start());
 }
 
-fn start() -> Child {
-    let mut carrier = command(Path::new(env!("SLUSHTROWEL_CARRIER")));
-    carrier.stdin(Stdio::piped()).stdout(Stdio::piped()).spawn().expect("the emulator starts")
+struct Carrier(Child);
+
+impl Carrier {
+    fn start() -> Self {
+        let mut carrier = command(Path::new(env!("SLUSHTROWEL_CARRIER")));
+        carrier.stdin(Stdio::piped()).stdout(Stdio::piped());
+        Carrier(carrier.spawn().expect("the emulator starts"))
+    }
+}
+
+/// It ends when its input does.
+impl Drop for Carrier {
+    fn drop(&mut self) {
+        drop(self.0.stdin.take());
+        _ = self.0.wait();
+    }
 }
 
 /// One call; what comes back after the results is the room.
@@ -26,7 +39,7 @@ fn call(routine: u8, asked: u8, question: &[u8], data: &[u8], room: &mut [u8]) -
     bytes.extend(question);
     bytes.extend(data);
     let mut answer = [0; 16];
-    CARRIER.with_borrow_mut(|carrier| {
+    CARRIER.with_borrow_mut(|Carrier(carrier)| {
         let (input, output) = (carrier.stdin.as_mut(), carrier.stdout.as_mut());
         input.expect("a pipe").write_all(&bytes).expect("the carrier reads");
         let output = output.expect("a pipe");
