@@ -2,9 +2,9 @@
 
 use diff::compare::{accepted, brute, round, Tally};
 use diff::{library, on_promised_stack, rounds};
-use oracle::examples::{published, recorded, twelve, Recorded};
-use oracle::sample::{deepest, Chance};
-use oracle::{encode, read, Question, Verdict};
+use oracle::{encode, Question, Verdict};
+use samples::examples::{published, twelve};
+use samples::{deepest, Chance};
 
 /// The most room for a sheet: longer ones are compared as far as they fit.
 const MOST_ROOM: usize = 2_048;
@@ -76,22 +76,4 @@ fn cases_and_published_examples() {
 #[test]
 fn the_deepest_tree() {
     on_promised_stack(|| assert_eq!(whole("deepest", &deepest()), "yes/yes"));
-}
-
-#[test]
-fn recorded_answers() {
-    for Recorded { question, printed, sheets } in recorded() {
-        if let Err(refusal) = read(&question) {
-            assert_eq!(printed, format!("refused {} {}\n", refusal.number, refusal.place));
-            assert_eq!(library::verdict(1, &question), Err(refusal));
-        }
-        for (asked, sheet) in (1..).zip(sheets) {
-            if let Some(sheet) = sheet {
-                let mut room = vec![7; sheet.len()];
-                let written = library::write(asked, &question, &mut room);
-                assert_eq!(written.map(|(_, length)| length), Ok(sheet.len()));
-                assert_eq!(room, sheet);
-            }
-        }
-    }
 }

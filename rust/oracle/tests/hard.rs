@@ -3,8 +3,8 @@
 use oracle::rules::grow::{first_open_leaf, grow, Page, Stop};
 use oracle::rules::sheet::{judge, work};
 use oracle::rules::trouble::trouble;
-use oracle::sample::{changed, hard, question, Chance};
 use oracle::{encode, read, Question, Verdict};
+use samples::{changed, hard, question, Chance};
 use std::time::{Duration, Instant};
 
 const ROOM: usize = 4_096;

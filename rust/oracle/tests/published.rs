@@ -1,11 +1,10 @@
 //! The published examples: our verdicts, and a second opinion on bytes, lengths and rows.
 
-use oracle::examples::{cases, load, published, Example};
 use oracle::rules::sheet::{values_in, work};
-use oracle::{check, encode, hex, verdict, Verdict};
-
-/// Name, question in hexadecimal, and for each asked: verdict, length, open formula and rows.
-const OPINION: &str = include_str!("../../vectors/published.tsv");
+use oracle::{check, encode, verdict, Verdict};
+use samples::examples::{cases, load, published, Example};
+use samples::hex;
+use samples::recorded::PUBLISHED;
 
 fn word(verdict: Verdict) -> &'static str {
     match verdict {
@@ -48,12 +47,11 @@ fn only_example_4_5_differs() {
 #[test]
 fn second_opinion() {
     let all = published();
-    for line in OPINION.lines() {
-        let columns: Vec<&str> = line.split('\t').collect();
-        let example = all.iter().find(|e| e.name == columns[0]).expect(columns[0]);
-        assert_eq!(hex(&encode(&example.question)), columns[1], "{}", columns[0]);
-        assert_eq!(described(example, 1), columns[2], "{}", columns[0]);
-        assert_eq!(described(example, 2), columns[3], "{}", columns[0]);
+    for [name, question, irrelevant, computable] in PUBLISHED.lines() {
+        let example = all.iter().find(|e| e.name == name).expect(name);
+        assert_eq!(hex(&encode(&example.question)), question, "{name}");
+        assert_eq!(described(example, 1), irrelevant, "{name}");
+        assert_eq!(described(example, 2), computable, "{name}");
     }
 }
 

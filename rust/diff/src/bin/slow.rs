@@ -6,7 +6,8 @@
 use diff::library;
 use diff::slow::{held, search, Hunt, Routine, ROUTINES};
 use diff::STACK;
-use oracle::{encode, hex};
+use oracle::encode;
+use samples::hex;
 use std::process::ExitCode;
 use std::sync::{Arc, Mutex};
 use std::time::{Duration, Instant};

@@ -1,8 +1,8 @@
 //! A long seeded run of the library against the oracle: `soak SECONDS [SEED]`.
 
 use diff::compare::{brute, hard_round, round, Difference, Tally};
-use oracle::examples::ASK_ROOM;
-use oracle::sample::Chance;
+use samples::recorded::ASK_ROOM;
+use samples::Chance;
 use std::process::ExitCode;
 use std::time::{Duration, Instant};
 

@@ -3,6 +3,7 @@
 //! It also holds the library to what the header fixes of the results: they are set on every outcome.
 
 use oracle::{Refusal, Verdict};
+use samples::recorded::Routines;
 
 #[cfg(not(carried))]
 #[path = "direct.rs"]
@@ -32,6 +33,9 @@ struct Left {
     said: u8,
     beside: u64,
 }
+
+/// The library's routines, for recorded calls.
+pub const ROUTINES: Routines = Routines { verdict, write, check };
 
 /// The verdict alone.
 pub fn verdict(asked: u8, question: &[u8]) -> Result<Verdict, Refusal> {
