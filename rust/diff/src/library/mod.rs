@@ -24,7 +24,6 @@ pub fn warn_of_emulation() {
 }
 
 /// What the results hold before a call: neither value is one that a call may leave.
-#[cfg_attr(carried, allow(dead_code))]
 const UNSET: (u8, u64) = (0xee, 0xeeee_eeee_eeee_eeee);
 
 /// What a call leaves: the returned number, the verdict byte, the place or length.
