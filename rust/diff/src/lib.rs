@@ -12,7 +12,7 @@ pub mod z3;
 /// The stack that the header promises to be plenty.
 pub const STACK: usize = 8 << 20;
 
-/// How many of so many rounds a test makes: an emulator takes some thirty times as long, so a tenth.
+/// How many of so many rounds a test makes: an emulator takes some ten times as long, so a tenth.
 pub const fn rounds(count: u64) -> u64 {
     if library::EMULATED {
         count / 10
