@@ -1,12 +1,12 @@
 //! Holds the proved library, through its C interface, against the oracle.
 
-pub mod compare;
+pub mod comparison;
+pub mod hunt;
 pub mod library;
 pub mod load;
 pub mod machine;
-pub mod measure;
-pub mod slow;
 pub mod smt;
+pub mod times;
 pub mod z3;
 
 /// The stack that the header promises to be plenty.

@@ -1,6 +1,6 @@
 //! The library and the oracle on the same seeded questions, sheets and rooms.
 
-use diff::compare::{accepted, brute, round, Tally};
+use diff::comparison::{accepted, brute, round, Tally};
 use diff::{library, on_promised_stack, rounds};
 use oracle::{encode, Question, Verdict};
 use samples::examples::{published, twelve};

@@ -1,6 +1,6 @@
 //! The library beside the oracle on seeded questions that are hard for a search.
 
-use diff::compare::{hard_round, Tally};
+use diff::comparison::{hard_round, Tally};
 use diff::{on_promised_stack, rounds};
 use samples::Chance;
 

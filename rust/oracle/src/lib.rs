@@ -10,13 +10,13 @@
 pub mod contents;
 pub mod rules;
 
-pub use rules::encode::encode;
+pub use rules::encoder::encode;
 pub use rules::question::Question;
-pub use rules::read::read;
+pub use rules::reader::read;
 pub use rules::refusal::Refusal;
 pub use rules::sheet::Verdict;
 
-use rules::check::check_sheet;
+use rules::checker::check_sheet;
 use rules::refusal::refuse;
 use rules::sheet::{judge, work, Worked};
 

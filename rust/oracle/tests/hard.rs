@@ -1,7 +1,7 @@
 //! The search for a verdict against the trees, on hard questions and others.
 
-use oracle::rules::grow::{first_open_leaf, grow, Page, Stop};
 use oracle::rules::sheet::{judge, work};
+use oracle::rules::trees::{first_open_leaf, grow, Page, Stop};
 use oracle::rules::trouble::trouble;
 use oracle::{encode, read, Question, Verdict};
 use samples::{changed, hard, question, Chance};

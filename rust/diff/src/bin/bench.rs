@@ -6,7 +6,7 @@
 //! start-up is taken off.
 
 use diff::load::{loads, Load};
-use diff::measure::{checked, verdicts, written, Times};
+use diff::times::{checked, verdicts, written, Times};
 use diff::{library, z3};
 use samples::recorded::ASK_ROOM;
 

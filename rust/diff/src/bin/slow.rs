@@ -3,8 +3,8 @@
 //! The run ends a little after that time whatever the library does: an answer that hasn't come by then
 //! is told as such.
 
+use diff::hunt::{held, search, Hunt, Routine, ROUTINES};
 use diff::library;
-use diff::slow::{held, search, Hunt, Routine, ROUTINES};
 use diff::STACK;
 use oracle::encode;
 use samples::hex;

@@ -1,6 +1,6 @@
 //! A long seeded run of the library against the oracle: `soak SECONDS [SEED]`.
 
-use diff::compare::{brute, hard_round, round, Difference, Tally};
+use diff::comparison::{brute, hard_round, round, Difference, Tally};
 use samples::recorded::ASK_ROOM;
 use samples::Chance;
 use std::process::ExitCode;

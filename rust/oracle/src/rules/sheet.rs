@@ -2,9 +2,9 @@
 
 use super::facts::Solved;
 use super::formula::Formula;
-use super::grow::{first_open_leaf, grow, Page, Stop};
 use super::question::Question;
 use super::search::Search;
+use super::trees::{first_open_leaf, grow, Page, Stop};
 use super::trouble::trouble;
 
 /// The answer to what was asked.
