@@ -21,6 +21,16 @@ pub const fn rounds(count: u64) -> u64 {
     }
 }
 
+/// The words of a command, `SECONDS [SEED]`; nothing if they are others.
+pub fn seconds_and_seed() -> Option<(u64, u64)> {
+    let numbers: Option<Vec<u64>> = std::env::args().skip(1).map(|word| word.parse().ok()).collect();
+    match numbers?[..] {
+        [seconds] => Some((seconds, 1)),
+        [seconds, seed] => Some((seconds, seed)),
+        _ => None,
+    }
+}
+
 /// Runs on a thread with just that stack.
 pub fn on_promised_stack<T: Send>(run: impl FnOnce() -> T + Send) -> T {
     std::thread::scope(|scope| {

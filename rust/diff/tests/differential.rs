@@ -56,11 +56,8 @@ fn whole(name: &str, question: &Question) -> String {
     if let Err(difference) = accepted(&mut chance, question, usize::MAX, &mut tally) {
         panic!("{name}: {difference}");
     }
-    let said = [1, 2].map(|asked| match library::verdict(asked, &encode(question)) {
-        Ok(Verdict::Yes) => "yes",
-        Ok(Verdict::No) => "no",
-        Err(_) => "refused",
-    });
+    let said =
+        [1, 2].map(|asked| library::verdict(asked, &encode(question)).map_or("refused", Verdict::word));
     said.join("/")
 }
 

@@ -6,17 +6,10 @@ use samples::examples::{cases, load, published, Example};
 use samples::hex;
 use samples::recorded::PUBLISHED;
 
-fn word(verdict: Verdict) -> &'static str {
-    match verdict {
-        Verdict::Yes => "yes",
-        Verdict::No => "no",
-    }
-}
-
 /// As `yes 23`, or `no 32 f0 9,10,9,9 / 9,30,9,9`.
 fn described(example: &Example, asked: u8) -> String {
     let worked = work(&example.question, asked, usize::MAX);
-    let mut text = format!("{} {}", word(worked.verdict), worked.bytes.len());
+    let mut text = format!("{} {}", worked.verdict.word(), worked.bytes.len());
     if worked.verdict == Verdict::No {
         let values: Vec<String> = values_in(&worked.bytes).iter().map(i32::to_string).collect();
         let rows = values.chunks(example.question.columns.len()).map(|row| row.join(","));
@@ -30,7 +23,7 @@ fn described(example: &Example, asked: u8) -> String {
 fn verdicts_are_right() {
     for example in published() {
         let bytes = encode(&example.question);
-        let said = [1, 2].map(|asked| word(verdict(asked, &bytes).expect("a question")));
+        let said = [1, 2].map(|asked| verdict(asked, &bytes).expect("a question").word());
         assert_eq!(said.join("/"), example.right, "{}", example.name);
     }
 }

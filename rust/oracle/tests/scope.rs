@@ -13,10 +13,7 @@ fn case(name: &str) -> Vec<u8> {
 }
 
 fn word(question: &[u8], asked: u8) -> &'static str {
-    match verdict(asked, question).expect("a question") {
-        Verdict::Yes => "yes",
-        Verdict::No => "no",
-    }
+    verdict(asked, question).expect("a question").word()
 }
 
 fn sheet(question: &[u8], asked: u8) -> Vec<u8> {

@@ -16,6 +16,16 @@ pub enum Verdict {
     No,
 }
 
+impl Verdict {
+    /// As a word.
+    pub fn word(self) -> &'static str {
+        match self {
+            Verdict::Yes => "yes",
+            Verdict::No => "no",
+        }
+    }
+}
+
 /// The mark and version that open a sheet.
 pub const OPENING: [u8; 5] = *b"VUS\x01\x00";
 
