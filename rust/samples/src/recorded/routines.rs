@@ -3,14 +3,20 @@
 use crate::{hex, unhex};
 use oracle::{Refusal, Verdict};
 
+/// A verdict, or why there is none.
+type Judged = Result<Verdict, Refusal>;
+
+/// The verdict and the sheet's length, or why there is no sheet.
+type Written = Result<(Verdict, usize), Refusal>;
+
 /// What calls are put to.
 pub struct Routines {
     /// The verdict alone.
-    pub verdict: fn(u8, &[u8]) -> Result<Verdict, Refusal>,
-    /// Writes the sheet to the room; gives the verdict and the sheet's length.
-    pub write: fn(u8, &[u8], &mut [u8]) -> Result<(Verdict, usize), Refusal>,
+    pub verdict: fn(u8, &[u8]) -> Judged,
+    /// Writes the sheet to the room.
+    pub write: fn(u8, &[u8], &mut [u8]) -> Written,
     /// Checks a sheet; gives the verdict that it shows.
-    pub check: fn(u8, &[u8], &[u8]) -> Result<Verdict, Refusal>,
+    pub check: fn(u8, &[u8], &[u8]) -> Judged,
 }
 
 /// The oracle's.
@@ -40,7 +46,7 @@ impl Routines {
     }
 }
 
-fn outcome(answer: Result<(Verdict, usize), Refusal>) -> String {
+fn outcome(answer: Written) -> String {
     match answer {
         Ok((Verdict::Yes, beside)) => format!("0 0 {beside}"),
         Ok((Verdict::No, beside)) => format!("0 1 {beside}"),
