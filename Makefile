@@ -1,7 +1,7 @@
 # The commands of the project. `make test` is the gate.
 SHELL := /bin/bash
 .SHELLFLAGS := -euo pipefail -c
-.PHONY: test house programs run twelve published refusals lib timed soak slow bench fmt
+.PHONY: test house programs run twelve published refusals lib timed soak slow bench count fmt
 
 cargo = cargo $(1) --quiet --offline --release --manifest-path rust/Cargo.toml
 
@@ -54,7 +54,7 @@ timed: lib
 else
 timed:
 	rust/native-lib.sh
-bench slow: export SLUSHTROWEL_LIB := $(CURDIR)/target/native
+bench slow count: export SLUSHTROWEL_LIB := $(CURDIR)/target/native
 endif
 
 # A search for the slowest answers, for so many seconds from a seed: the worst of each routine with its question.
@@ -67,6 +67,11 @@ bench: timed
 	rust/bench-setup.sh
 	$(call cargo,run) -p diff --bin bench
 	$(call cargo,run) -p diff --bin pace
+
+# Instructions of verdicts, sheets and checks, as valgrind counts them; with a WORD, of the loads that have it in their names.
+WORD ?=
+count: timed
+	$(call cargo,run) -p diff --bin count -- $(WORD)
 
 fmt:
 	rt fmt

@@ -60,8 +60,8 @@ fn carrier(here: &Path, archive: &Path, machine: &str) -> Result<(), String> {
     let (object, program) = (out.join("carrier.o"), out.join("carrier"));
     let mut clang = Command::new(tools.join("bin/clang"));
     clang.args(["--target=x86_64-unknown-linux-gnu", "-std=c99", "-Wall", "-Wextra", "-Werror", "-O2"]);
-    clang.args(["-ffreestanding", "-fno-builtin", "-fno-stack-protector", "-fno-pic", "-c"]);
-    run(clang.arg(source).arg("-o").arg(&object))?;
+    clang.args(["-ffreestanding", "-fno-builtin", "-fno-stack-protector", "-fno-pic"]);
+    run(clang.args(["-mgeneral-regs-only", "-c"]).arg(source).arg("-o").arg(&object))?;
     let mut link = Command::new(tools.join("bin/ld.lld"));
     run(link.args(["-static", "-o"]).arg(&program).arg(&object).arg(archive))?;
     println!("cargo::rustc-env=SLUSHTROWEL_TOOLS={}", tools.display());

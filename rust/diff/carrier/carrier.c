@@ -1,18 +1,25 @@
 /* Lends the library, which is for x86-64, to tests on a machine of another kind: run by an emulator,
  * it answers calls that come on standard input until there are no more.
  *
- * A call: routine (1 verdict, 2 write, 3 check), asked, the lengths of the question and of the sheet
- * or room (64 bits each, low byte first), then their bytes. An answer: the returned number, the verdict
- * byte and the place as they are afterwards, then, for write, the room's bytes. It uses no C library.
+ * A call: the routine, how many words it is called with, and for each word its kind and a number (64 bits
+ * each, low byte first); then the bytes of each word that isn't a number. An answer: the returned number,
+ * then the bytes of each room as they are afterwards. It uses no C library.
  */
 typedef unsigned char u8;
 typedef unsigned long u64;
 
-u8 vu_verdict(u8 asked, const u8 *question, u64 n, u8 *verdict, u64 *place);
-u8 vu_write(u8 asked, const u8 *question, u64 n, u8 *room, u64 m, u8 *verdict, u64 *length_or_place);
-u8 vu_check(u8 asked, const u8 *question, u64 n, const u8 *sheet, u64 m, u8 *verdict, u64 *place);
+/* A word is a number, or points to so many bytes; those of a room come back. */
+enum { NUMBER, BYTES, ROOM };
+struct word { u64 kind, number; };
 
-static u8 question[1 << 16], data[1 << 24];
+/* Any function of the library, called with as many words as the longest has: one that has fewer looks at no others. */
+enum { MOST_WORDS = 13 };
+typedef u8 routine(u64, u64, u64, u64, u64, u64, u64, u64, u64, u64, u64, u64, u64);
+
+extern routine vu_verdict, vu_write, vu_check;
+static routine *const routines[] = {vu_verdict, vu_write, vu_check};
+
+static u8 data[1 << 25] __attribute__((aligned(16)));
 
 static long call(long number, long a, long b, long c) {
     long result;
@@ -43,20 +50,32 @@ static void put(const u8 *from, u64 n) {
     }
 }
 
+/* Reads the words of a call, and their bytes to places that suit any number. */
+static void take(struct word *words, u64 count, u64 *given) {
+    u64 at = 0;
+    get((u8 *)words, count * sizeof *words);
+    for (u64 i = 0; i < count; i++) {
+        u64 n = words[i].number;
+        given[i] = n;
+        if (words[i].kind == NUMBER) continue;
+        if (n > sizeof data - at) end(2);
+        given[i] = (u64)(data + at);
+        get(data + at, n);
+        at += (n + 15) / 16 * 16;
+    }
+}
+
 static void serve(void) {
-    struct { u8 routine, asked, none[6]; u64 n, m; } head;
-    struct { u8 number, verdict, none[6]; u64 place; } answer;
+    struct { u64 routine, count; } head;
+    struct word words[MOST_WORDS];
+    u64 g[MOST_WORDS] = {0};
     get((u8 *)&head, sizeof head);
-    if (head.n > sizeof question || head.m > sizeof data) end(2);
-    get(question, head.n);
-    get(data, head.m);
-    answer.verdict = 0xee;
-    answer.place = 0xeeeeeeeeeeeeeeee;
-    if (head.routine == 1) answer.number = vu_verdict(head.asked, question, head.n, &answer.verdict, &answer.place);
-    if (head.routine == 2) answer.number = vu_write(head.asked, question, head.n, data, head.m, &answer.verdict, &answer.place);
-    if (head.routine == 3) answer.number = vu_check(head.asked, question, head.n, data, head.m, &answer.verdict, &answer.place);
-    put((u8 *)&answer, sizeof answer);
-    if (head.routine == 2) put(data, head.m);
+    if (head.routine >= sizeof routines / sizeof *routines || head.count > MOST_WORDS) end(2);
+    take(words, head.count, g);
+    u8 number = routines[head.routine](g[0], g[1], g[2], g[3], g[4], g[5], g[6], g[7], g[8], g[9], g[10], g[11], g[12]);
+    put(&number, 1);
+    for (u64 i = 0; i < head.count; i++)
+        if (words[i].kind == ROOM) put((u8 *)g[i], words[i].number);
 }
 
 /* It ends with the thread that started it, even in the middle of an answer. */
@@ -67,23 +86,29 @@ void carry(void) {
 
 __asm__(".globl _start\n_start:\n xor %ebp, %ebp\n and $-16, %rsp\n call carry\n");
 
-/* What the library asks of a C library. */
+/* What the library asks of a C library: eight bytes at a time as far as there are so many, since an emulator takes as long for one, and
+ * since it takes the processor's own instructions for strings apart into bytes. */
+typedef struct { u64 bytes; } __attribute__((packed, may_alias)) eight;
+
 void *memset(void *to, int byte, u64 n) {
-    void *at = to;
-    __asm__ volatile("rep stosb" : "+D"(at), "+c"(n) : "a"(byte) : "memory");
+    u8 *at = to;
+    for (; n >= 8; n -= 8, at += 8) ((eight *)at)->bytes = (u8)byte * 0x0101010101010101;
+    for (; n > 0; n--) *at++ = (u8)byte;
     return to;
 }
 
 void *memcpy(void *to, const void *from, u64 n) {
-    void *at = to;
-    __asm__ volatile("rep movsb" : "+D"(at), "+S"(from), "+c"(n) : : "memory");
+    u8 *at = to;
+    const u8 *of = from;
+    for (; n >= 8; n -= 8, at += 8, of += 8) *(eight *)at = *(const eight *)of;
+    for (; n > 0; n--) *at++ = *of++;
     return to;
 }
 
 void *memmove(void *to, const void *from, u64 n) {
-    u8 *last = (u8 *)to + n - 1;
-    const u8 *of = (const u8 *)from + n - 1;
+    u8 *at = to;
+    const u8 *of = from;
     if ((u64)to - (u64)from >= n) return memcpy(to, from, n);
-    __asm__ volatile("std\n rep movsb\n cld" : "+D"(last), "+S"(of), "+c"(n) : : "memory");
+    for (; n > 0; n--) at[n - 1] = of[n - 1];
     return to;
 }

@@ -1,23 +1,33 @@
 //! Holds the proved library, through its C interface, against the oracle.
 
-pub mod compare;
+pub mod comparison;
+pub mod hunt;
 pub mod library;
 pub mod load;
 pub mod machine;
-pub mod measure;
-pub mod slow;
 pub mod smt;
+pub mod times;
 pub mod z3;
 
 /// The stack that the header promises to be plenty.
 pub const STACK: usize = 8 << 20;
 
-/// How many of so many rounds a test makes: an emulator takes some thirty times as long, so a tenth.
+/// How many of so many rounds a test makes: an emulator takes some ten times as long, so a tenth.
 pub const fn rounds(count: u64) -> u64 {
     if library::EMULATED {
         count / 10
     } else {
         count
+    }
+}
+
+/// The words of a command, `SECONDS [SEED]`; nothing if they are others.
+pub fn seconds_and_seed() -> Option<(u64, u64)> {
+    let numbers: Option<Vec<u64>> = std::env::args().skip(1).map(|word| word.parse().ok()).collect();
+    match numbers?[..] {
+        [seconds] => Some((seconds, 1)),
+        [seconds, seed] => Some((seconds, seed)),
+        _ => None,
     }
 }
 

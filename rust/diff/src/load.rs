@@ -1,11 +1,11 @@
 //! What the benchmark asks.
 
 use crate::smt::script;
-use oracle::examples::{self, ASK_ROOM};
 use oracle::rules::sheet::{work, Worked};
 use oracle::rules::trouble::trouble;
-use oracle::sample::{hard, question, sized, Chance};
 use oracle::{encode, Question, Verdict};
+use samples::recorded::ASK_ROOM;
+use samples::{examples, hard, question, sized, Chance};
 
 /// One question as it is asked, with what is known of it.
 pub struct Asked {

@@ -9,24 +9,15 @@ pub const TOOLS: Option<&str> = option_env!("SLUSHTROWEL_TOOLS");
 
 /// A command that runs the program.
 pub fn command(program: &Path) -> Command {
-    let words = words(program);
-    let mut command = Command::new(&words[0]);
-    command.args(&words[1..]);
-    command
-}
-
-/// Its words, the program's own the last.
-fn words(program: &Path) -> Vec<String> {
-    let program = program.display().to_string();
-    match TOOLS {
-        None => vec![program],
-        // a program that is linked whole needs no loader
-        Some(tools) if Some(program.as_str()) == option_env!("SLUSHTROWEL_CARRIER") => {
-            vec![format!("{tools}/bin/qemu-x86_64"), program]
-        }
-        Some(tools) => {
-            let (lib, loader) = (format!("{tools}/lib"), format!("{tools}/lib/ld-linux-x86-64.so.2"));
-            vec![format!("{tools}/bin/qemu-x86_64"), loader, "--library-path".to_string(), lib, program]
-        }
+    let Some(tools) = TOOLS else { return Command::new(program) };
+    let mut command = Command::new(format!("{tools}/bin/qemu-x86_64"));
+    // a plain processor: one that has quick instructions for strings is slow at them when emulated
+    command.args(["-cpu", "qemu64"]);
+    // a program that is linked whole needs no loader
+    if program.to_str() != option_env!("SLUSHTROWEL_CARRIER") {
+        let (lib, loader) = (format!("{tools}/lib"), format!("{tools}/lib/ld-linux-x86-64.so.2"));
+        command.args([&loader, "--library-path", &lib]);
     }
+    command.arg(program);
+    command
 }

@@ -1,7 +1,8 @@
 //! z3 on the formulas of a load, as another program to compare times with.
 
 use crate::load::{Asked, Load};
-use oracle::{hex, Verdict};
+use oracle::Verdict;
+use samples::hex;
 use std::fs::read_to_string;
 use std::io::{Read, Write};
 use std::process::{Command, Stdio};

@@ -1,10 +1,10 @@
 //! The library and the oracle on the same seeded questions, sheets and rooms.
 
-use diff::compare::{accepted, brute, round, Tally};
+use diff::comparison::{accepted, brute, round, Tally};
 use diff::{library, on_promised_stack, rounds};
-use oracle::examples::{published, recorded, twelve, Recorded};
-use oracle::sample::{deepest, Chance};
-use oracle::{encode, read, Question, Verdict};
+use oracle::{encode, Question, Verdict};
+use samples::examples::{published, twelve};
+use samples::{deepest, Chance};
 
 /// The most room for a sheet: longer ones are compared as far as they fit.
 const MOST_ROOM: usize = 2_048;
@@ -56,11 +56,8 @@ fn whole(name: &str, question: &Question) -> String {
     if let Err(difference) = accepted(&mut chance, question, usize::MAX, &mut tally) {
         panic!("{name}: {difference}");
     }
-    let said = [1, 2].map(|asked| match library::verdict(asked, &encode(question)) {
-        Ok(Verdict::Yes) => "yes",
-        Ok(Verdict::No) => "no",
-        Err(_) => "refused",
-    });
+    let said =
+        [1, 2].map(|asked| library::verdict(asked, &encode(question)).map_or("refused", Verdict::word));
     said.join("/")
 }
 
@@ -76,22 +73,4 @@ fn cases_and_published_examples() {
 #[test]
 fn the_deepest_tree() {
     on_promised_stack(|| assert_eq!(whole("deepest", &deepest()), "yes/yes"));
-}
-
-#[test]
-fn recorded_answers() {
-    for Recorded { question, printed, sheets } in recorded() {
-        if let Err(refusal) = read(&question) {
-            assert_eq!(printed, format!("refused {} {}\n", refusal.number, refusal.place));
-            assert_eq!(library::verdict(1, &question), Err(refusal));
-        }
-        for (asked, sheet) in (1..).zip(sheets) {
-            if let Some(sheet) = sheet {
-                let mut room = vec![7; sheet.len()];
-                let written = library::write(asked, &question, &mut room);
-                assert_eq!(written.map(|(_, length)| length), Ok(sheet.len()));
-                assert_eq!(room, sheet);
-            }
-        }
-    }
 }

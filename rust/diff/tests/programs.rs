@@ -1,8 +1,8 @@
 //! The programs on the recorded questions, as processes of their own.
 
 use diff::machine::command;
-use oracle::examples::{hard, recorded, Recorded};
-use oracle::hex;
+use samples::hex;
+use samples::recorded::{asks, hard_asks, Ask};
 use std::io::Write;
 use std::path::{Path, PathBuf};
 use std::process::Stdio;
@@ -22,7 +22,7 @@ fn run(name: &str, words: &[&Path], input: &[u8]) -> String {
 
 #[test]
 fn ask_answers_the_recorded_questions() {
-    for Recorded { question, printed, .. } in recorded() {
+    for Ask { question, printed, .. } in asks() {
         assert_eq!(run("ask", &[], &question), printed, "{}", hex(&question));
     }
 }
@@ -30,7 +30,7 @@ fn ask_answers_the_recorded_questions() {
 /// Every twentieth one: among them verdicts of both sorts, and sheets with no room.
 #[test]
 fn ask_answers_hard_questions() {
-    for Recorded { question, printed, .. } in hard().into_iter().step_by(20) {
+    for Ask { question, printed, .. } in hard_asks().into_iter().step_by(20) {
         assert_eq!(run("ask", &[], &question), printed, "{}", hex(&question));
     }
 }
@@ -40,7 +40,7 @@ fn ask_answers_hard_questions() {
 fn sheets_are_written_and_pass() {
     let folder = PathBuf::from(env!("CARGO_TARGET_TMPDIR"));
     let (asked_of, sheet_of) = (folder.join("question"), folder.join("sheet"));
-    for Recorded { question, printed, sheets } in recorded().into_iter().step_by(4) {
+    for Ask { question, printed, sheets } in asks().into_iter().step_by(4) {
         for (at, word) in ["irrelevant", "computable"].iter().enumerate() {
             let Some(sheet) = &sheets[at] else { continue };
             std::fs::write(&asked_of, &question).expect("a file");

@@ -5,23 +5,18 @@
 //! new one learned from each dead end; values are kept by passing on what a new fact lowers; and cycles
 //! are found by the least weights of walks of each length.
 //!
-//! `rules` is the implementation. `contents` has the definitions that it must agree with, `sample`
-//! seeded questions and sheets, `examples` questions with known answers.
+//! `rules` is the implementation, `contents` has the definitions that it must agree with.
 
 pub mod contents;
-pub mod examples;
-mod hex;
 pub mod rules;
-pub mod sample;
 
-pub use hex::{hex, unhex};
-pub use rules::encode::encode;
+pub use rules::encoder::encode;
 pub use rules::question::Question;
-pub use rules::read::read;
+pub use rules::reader::read;
 pub use rules::refusal::Refusal;
 pub use rules::sheet::Verdict;
 
-use rules::check::check_sheet;
+use rules::checker::check_sheet;
 use rules::refusal::refuse;
 use rules::sheet::{judge, work, Worked};
 

@@ -2,8 +2,8 @@
 
 use oracle::contents::{all_contents, breaks, computable, irrelevant};
 use oracle::rules::sheet::{judge, values_in, work, Verdict};
-use oracle::sample::{question, tiny, Chance};
 use oracle::Question;
+use samples::{question, tiny, Chance};
 
 fn said(question: &Question, asked: u8) -> bool {
     judge(question, asked) == Verdict::Yes

@@ -3,7 +3,7 @@
 use oracle::rules::edges::Edges;
 use oracle::rules::facts::Solved;
 use oracle::rules::formula::{Formula, Part, Vertex};
-use oracle::sample::Chance;
+use samples::Chance;
 
 const VERTICES: usize = 4;
 

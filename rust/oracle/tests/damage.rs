@@ -1,8 +1,8 @@
 //! Damaged questions and sheets: never a panic, never a verdict that isn't so.
 
 use oracle::rules::sheet::work;
-use oracle::sample::{damaged, misfit, other_sheet, question, Chance};
 use oracle::{check, encode, read, verdict, write, Refusal};
+use samples::{damaged, misfit, other_sheet, question, Chance};
 use std::collections::BTreeMap;
 
 const ROOM: usize = 8_192;

@@ -1,10 +1,11 @@
 //! The cases and bytes of docs/FORMAT.md, section 9, and rooms.
 
-use oracle::examples::{shortcuts, twelve};
 use oracle::rules::sheet::values_in;
 use oracle::rules::trouble::trouble;
-use oracle::sample::deepest;
 use oracle::{check, encode, read, verdict, write, Refusal, Verdict};
+use samples::examples::{shortcuts, twelve};
+use samples::recorded::calls;
+use samples::{deepest, hex};
 
 fn case(name: &str) -> Vec<u8> {
     let found = twelve().into_iter().find(|example| example.name == name);
@@ -12,10 +13,7 @@ fn case(name: &str) -> Vec<u8> {
 }
 
 fn word(question: &[u8], asked: u8) -> &'static str {
-    match verdict(asked, question).expect("a question") {
-        Verdict::Yes => "yes",
-        Verdict::No => "no",
-    }
+    verdict(asked, question).expect("a question").word()
 }
 
 fn sheet(question: &[u8], asked: u8) -> Vec<u8> {
@@ -49,20 +47,13 @@ fn twelve_witnesses() {
     assert_eq!(rows("j", 2), [9, 30, 9, 9, 9, 17, 9, 9]);
 }
 
+/// The recorded calls on case a are on the question that stands here as text.
 #[test]
 fn case_a_in_bytes() {
     let a = case("a");
     assert_eq!(a.len(), 73);
-    let whole =
-        [0x56, 0x55, 0x53, 0x01, 0x00, 0x01, 0x00, 0x03, 0x03, 0x03, 0x02, 0x01, 0x00, 0x01, 0x01, 0x01];
-    assert_eq!(sheet(&a, 1), whole);
-    assert_eq!(sheet(&a, 2).len(), 16);
-    let refused = |number, place| Err(Refusal { number, place });
-    assert_eq!(read(&a[..72]), refused(1, 69));
-    assert_eq!(read(&[&a[..], &[0]].concat()), refused(9, 73));
-    let mut high = a.clone();
-    high[69] = 31;
-    assert_eq!(read(&high), refused(5, 69));
+    assert_eq!(calls().next().expect("a call").call, format!("verdict 1 {}", hex(&a)));
+    assert_eq!([1, 2].map(|asked| sheet(&a, asked).len()), [16, 16]);
 }
 
 #[test]
@@ -105,13 +96,6 @@ fn rooms_of_every_length() {
             }
         }
     }
-}
-
-#[test]
-fn a_refused_question_leaves_the_room() {
-    let mut room = [7; 40];
-    assert_eq!(write(1, &case("a")[..72], &mut room), Err(Refusal { number: 1, place: 69 }));
-    assert_eq!(room, [7; 40]);
 }
 
 #[test]

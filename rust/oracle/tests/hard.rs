@@ -1,17 +1,19 @@
 //! The search for a verdict against the trees, on hard questions and others.
 
-use oracle::rules::grow::{first_open_leaf, grow, Page, Stop};
+use oracle::rules::facts::Solved;
+use oracle::rules::question::MOST_VERTICES;
 use oracle::rules::sheet::{judge, work};
+use oracle::rules::trees::{first_open_leaf, grow, Page, Stop};
 use oracle::rules::trouble::trouble;
-use oracle::sample::{changed, hard, question, Chance};
 use oracle::{encode, read, Question, Verdict};
+use samples::{changed, hard, question, Chance};
 use std::time::{Duration, Instant};
 
 const ROOM: usize = 4_096;
 
-/// The verdict as the trees alone tell it, walked in order up to the first open leaf, with the
-/// greatest values there; nothing if they don't fit the room.
-fn walked(question: &Question, asked: u8) -> Option<(Verdict, Vec<i64>)> {
+/// The verdict as the trees alone tell it, walked in order up to the first open leaf; nothing if they
+/// don't fit the room. The way down to that leaf must end in the same values.
+fn walked(question: &Question, asked: u8) -> Option<Verdict> {
     let mut page = Page::new(ROOM);
     for formula in trouble(question, asked) {
         match grow(&formula, &mut page) {
@@ -19,14 +21,16 @@ fn walked(question: &Question, asked: u8) -> Option<(Verdict, Vec<i64>)> {
             Err(Stop::Full) => return None,
             Err(Stop::Open(facts)) => {
                 let leaf = first_open_leaf(&formula).expect("an open leaf");
-                let values = |facts: &dyn Fn(usize) -> i64| -> Vec<i64> { (0..17).map(facts).collect() };
-                let greatest = values(&|vertex| facts.greatest(vertex));
-                assert_eq!(values(&|vertex| leaf.greatest(vertex)), greatest, "{question:?}");
-                return Some((Verdict::No, greatest));
+                assert_eq!(values(&leaf), values(&facts), "{question:?}");
+                return Some(Verdict::No);
             }
         }
     }
-    Some((Verdict::Yes, Vec::new()))
+    Some(Verdict::Yes)
+}
+
+fn values(facts: &Solved) -> [i64; MOST_VERTICES] {
+    std::array::from_fn(|vertex| facts.greatest(vertex))
 }
 
 #[test]
@@ -42,7 +46,7 @@ fn the_search_agrees_with_the_trees() {
             let said = judge(&question, asked);
             match walked(&question, asked) {
                 None => counts[2] += 1,
-                Some((verdict, _)) => {
+                Some(verdict) => {
                     assert_eq!(said, verdict, "{question:?}");
                     counts[verdict as usize] += 1;
                 }

@@ -1,23 +1,15 @@
 //! The published examples: our verdicts, and a second opinion on bytes, lengths and rows.
 
-use oracle::examples::{cases, load, published, Example};
 use oracle::rules::sheet::{values_in, work};
-use oracle::{check, encode, hex, verdict, Verdict};
-
-/// Name, question in hexadecimal, and for each asked: verdict, length, open formula and rows.
-const OPINION: &str = include_str!("../../vectors/published.tsv");
-
-fn word(verdict: Verdict) -> &'static str {
-    match verdict {
-        Verdict::Yes => "yes",
-        Verdict::No => "no",
-    }
-}
+use oracle::{check, encode, verdict, Verdict};
+use samples::examples::{cases, load, published, Example};
+use samples::hex;
+use samples::recorded::PUBLISHED;
 
 /// As `yes 23`, or `no 32 f0 9,10,9,9 / 9,30,9,9`.
 fn described(example: &Example, asked: u8) -> String {
     let worked = work(&example.question, asked, usize::MAX);
-    let mut text = format!("{} {}", word(worked.verdict), worked.bytes.len());
+    let mut text = format!("{} {}", worked.verdict.word(), worked.bytes.len());
     if worked.verdict == Verdict::No {
         let values: Vec<String> = values_in(&worked.bytes).iter().map(i32::to_string).collect();
         let rows = values.chunks(example.question.columns.len()).map(|row| row.join(","));
@@ -31,7 +23,7 @@ fn described(example: &Example, asked: u8) -> String {
 fn verdicts_are_right() {
     for example in published() {
         let bytes = encode(&example.question);
-        let said = [1, 2].map(|asked| word(verdict(asked, &bytes).expect("a question")));
+        let said = [1, 2].map(|asked| verdict(asked, &bytes).expect("a question").word());
         assert_eq!(said.join("/"), example.right, "{}", example.name);
     }
 }
@@ -48,12 +40,11 @@ fn only_example_4_5_differs() {
 #[test]
 fn second_opinion() {
     let all = published();
-    for line in OPINION.lines() {
-        let columns: Vec<&str> = line.split('\t').collect();
-        let example = all.iter().find(|e| e.name == columns[0]).expect(columns[0]);
-        assert_eq!(hex(&encode(&example.question)), columns[1], "{}", columns[0]);
-        assert_eq!(described(example, 1), columns[2], "{}", columns[0]);
-        assert_eq!(described(example, 2), columns[3], "{}", columns[0]);
+    for [name, question, irrelevant, computable] in PUBLISHED.lines() {
+        let example = all.iter().find(|e| e.name == name).expect(name);
+        assert_eq!(hex(&encode(&example.question)), question, "{name}");
+        assert_eq!(described(example, 1), irrelevant, "{name}");
+        assert_eq!(described(example, 2), computable, "{name}");
     }
 }
 

@@ -6,9 +6,9 @@
 //! start-up is taken off.
 
 use diff::load::{loads, Load};
-use diff::measure::{checked, verdicts, written, Times};
+use diff::times::{checked, verdicts, written, Times};
 use diff::{library, z3};
-use oracle::examples::ASK_ROOM;
+use samples::recorded::ASK_ROOM;
 
 fn main() {
     let word = std::env::args().nth(1).unwrap_or_default();

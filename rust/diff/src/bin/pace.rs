@@ -5,7 +5,7 @@
 //! makes a cycle below zero. Only the first column is visible, so asked 2 has nearly twice the vertices.
 
 use diff::library;
-use diff::measure::mean;
+use diff::times::mean;
 use oracle::rules::question::*;
 use oracle::rules::trouble::trouble;
 use oracle::{encode, Verdict};

@@ -3,23 +3,20 @@
 //! The run ends a little after that time whatever the library does: an answer that hasn't come by then
 //! is told as such.
 
+use diff::hunt::{held, search, Hunt, Routine, ROUTINES};
 use diff::library;
-use diff::slow::{held, search, Hunt, Routine, ROUTINES};
-use diff::STACK;
-use oracle::{encode, hex};
+use diff::{seconds_and_seed, STACK};
+use oracle::encode;
+use samples::hex;
+use samples::recorded::ASK_ROOM;
 use std::process::ExitCode;
 use std::sync::{Arc, Mutex};
 use std::time::{Duration, Instant};
 
 fn main() -> ExitCode {
-    let numbers: Option<Vec<u64>> = std::env::args().skip(1).map(|word| word.parse().ok()).collect();
-    let (seconds, seed) = match numbers.as_deref() {
-        Some([seconds]) => (*seconds, 1),
-        Some([seconds, seed]) => (*seconds, *seed),
-        _ => {
-            eprintln!("usage: slow SECONDS [SEED]");
-            return ExitCode::from(2);
-        }
+    let Some((seconds, seed)) = seconds_and_seed() else {
+        eprintln!("usage: slow SECONDS [SEED]");
+        return ExitCode::from(2);
     };
     let until = Instant::now() + Duration::from_secs(seconds);
     let hunts = Arc::new(Mutex::new(ROUTINES.map(Hunt::new).into_iter().collect()));
@@ -43,7 +40,7 @@ fn main() -> ExitCode {
 fn tell(hunt: &Hunt) {
     let name = match hunt.routine {
         Routine::Verdict(asked) => format!("verdict, asked {asked}"),
-        Routine::Write => "write in 32,768 bytes".to_string(),
+        Routine::Write => format!("write in {ASK_ROOM} bytes"),
         Routine::Check => "check".to_string(),
     };
     println!("{name}: {} questions tried", hunt.tried);

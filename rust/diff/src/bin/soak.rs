@@ -1,20 +1,16 @@
 //! A long seeded run of the library against the oracle: `soak SECONDS [SEED]`.
 
-use diff::compare::{brute, hard_round, round, Difference, Tally};
-use oracle::examples::ASK_ROOM;
-use oracle::sample::Chance;
+use diff::comparison::{brute, hard_round, round, Difference, Tally};
+use diff::seconds_and_seed;
+use samples::recorded::ASK_ROOM;
+use samples::Chance;
 use std::process::ExitCode;
 use std::time::{Duration, Instant};
 
 fn main() -> ExitCode {
-    let numbers: Option<Vec<u64>> = std::env::args().skip(1).map(|word| word.parse().ok()).collect();
-    let (seconds, seed) = match numbers.as_deref() {
-        Some([seconds]) => (*seconds, 1),
-        Some([seconds, seed]) => (*seconds, *seed),
-        _ => {
-            eprintln!("usage: soak SECONDS [SEED]");
-            return ExitCode::from(2);
-        }
+    let Some((seconds, seed)) = seconds_and_seed() else {
+        eprintln!("usage: soak SECONDS [SEED]");
+        return ExitCode::from(2);
     };
     let mut tally = Tally::default();
     if let Err(difference) = run(Duration::from_secs(seconds), seed, &mut tally) {

@@ -3,6 +3,7 @@
 //! It also holds the library to what the header fixes of the results: they are set on every outcome.
 
 use oracle::{Refusal, Verdict};
+use samples::recorded::Routines;
 
 #[cfg(not(carried))]
 #[path = "direct.rs"]
@@ -23,7 +24,6 @@ pub fn warn_of_emulation() {
 }
 
 /// What the results hold before a call: neither value is one that a call may leave.
-#[cfg_attr(carried, allow(dead_code))]
 const UNSET: (u8, u64) = (0xee, 0xeeee_eeee_eeee_eeee);
 
 /// What a call leaves: the returned number, the verdict byte, the place or length.
@@ -32,6 +32,9 @@ struct Left {
     said: u8,
     beside: u64,
 }
+
+/// The library's routines, for recorded calls.
+pub const ROUTINES: Routines = Routines { verdict, write, check };
 
 /// The verdict alone.
 pub fn verdict(asked: u8, question: &[u8]) -> Result<Verdict, Refusal> {

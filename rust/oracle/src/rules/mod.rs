@@ -1,17 +1,17 @@
 //! The implementation: questions, formulas, verdicts, sheets and their check.
 
-pub mod check;
+pub mod checker;
 mod clauses;
 mod draft;
 pub mod edges;
-pub mod encode;
+pub mod encoder;
 pub mod facts;
 pub mod formula;
 mod graph;
-pub mod grow;
 pub mod question;
-pub mod read;
+pub mod reader;
 pub mod refusal;
 pub mod search;
 pub mod sheet;
+pub mod trees;
 pub mod trouble;

@@ -2,9 +2,9 @@
 
 use super::facts::Solved;
 use super::formula::Formula;
-use super::grow::{first_open_leaf, grow, Page, Stop};
 use super::question::Question;
 use super::search::Search;
+use super::trees::{first_open_leaf, grow, Page, Stop};
 use super::trouble::trouble;
 
 /// The answer to what was asked.
@@ -14,6 +14,16 @@ pub enum Verdict {
     Yes,
     /// Not so.
     No,
+}
+
+impl Verdict {
+    /// As a word.
+    pub fn word(self) -> &'static str {
+        match self {
+            Verdict::Yes => "yes",
+            Verdict::No => "no",
+        }
+    }
 }
 
 /// The mark and version that open a sheet.

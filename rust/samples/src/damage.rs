@@ -1,8 +1,8 @@
 //! Damaged bytes: cut, lengthened, or with wrong values in places.
 
-use super::Chance;
-use crate::rules::encode::encode;
-use crate::rules::question::*;
+use crate::Chance;
+use oracle::encode;
+use oracle::rules::question::*;
 
 /// Numbers at and just beyond the limits of values and constants.
 const EDGES: [i32; 10] = [

@@ -1,7 +1,7 @@
 //! A sound question changed a little, so that it stays sound.
 
-use super::Chance;
-use crate::rules::question::*;
+use crate::Chance;
+use oracle::rules::question::*;
 
 /// The question with one to three things changed: constants, operators, joins, columns, modes, ranges.
 pub fn changed(chance: &mut Chance, question: &Question) -> Question {

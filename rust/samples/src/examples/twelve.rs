@@ -2,7 +2,7 @@
 
 use super::sketch::Sketch;
 use super::Example;
-use crate::rules::question::Question;
+use oracle::Question;
 
 /// KEY and CLIENT.
 const TABLES: &str = "K 0..9 v, V 0..30; N 0..9 v, Q 0..9";

@@ -3,8 +3,8 @@
 use crate::library;
 use oracle::contents::{all_contents, computable, irrelevant};
 use oracle::rules::sheet::{work, Worked};
-use oracle::sample::{changed, damaged, hard, misfit, other_sheet, question, tiny, Chance};
-use oracle::{encode, hex, read, Question, Refusal, Verdict};
+use oracle::{encode, read, Question, Refusal, Verdict};
+use samples::{changed, damaged, hard, hex, misfit, other_sheet, question, tiny, Chance};
 use std::collections::BTreeMap;
 
 /// What was put to both, counted.

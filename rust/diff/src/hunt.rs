@@ -4,10 +4,10 @@
 //! a few runs counts: what else the machine does can only add to it.
 
 use crate::library;
-use oracle::examples::ASK_ROOM;
 use oracle::rules::sheet::work;
-use oracle::sample::{changed, deepest, hard, question, Chance};
 use oracle::{encode, Question};
+use samples::recorded::ASK_ROOM;
+use samples::{changed, deepest, hard, question, Chance};
 use std::sync::Mutex;
 use std::time::{Duration, Instant};
 

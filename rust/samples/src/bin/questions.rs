@@ -2,8 +2,9 @@
 //! hexadecimal, the report's verdicts, the right ones. With the word `table`: the published examples as
 //! the rows of a Markdown table. With the word `lines`: as lines that the program `published` reads.
 
-use oracle::examples::{published, shortcuts, twelve};
-use oracle::{encode, hex};
+use oracle::encode;
+use samples::examples::{published, shortcuts, twelve};
+use samples::hex;
 
 fn main() {
     let words: Vec<String> = std::env::args().skip(1).collect();

@@ -1,8 +1,8 @@
 //! Questions that are hard for a search which splits cases before it looks: one table, six comparisons
 //! of columns a condition, and a modify that shifts columns.
 
-use super::Chance;
-use crate::rules::question::*;
+use crate::Chance;
+use oracle::rules::question::*;
 
 /// The operators of one question.
 const KINDS: [&[Op]; 5] = [

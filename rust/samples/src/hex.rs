@@ -1,8 +1,11 @@
 //! Bytes in hexadecimal.
 
+const DIGITS: &[u8; 16] = b"0123456789abcdef";
+
 /// Two digits a byte.
 pub fn hex(bytes: &[u8]) -> String {
-    bytes.iter().map(|byte| format!("{byte:02x}")).collect()
+    let digit = |four: u8| char::from(DIGITS[usize::from(four)]);
+    bytes.iter().flat_map(|byte| [digit(byte >> 4), digit(byte & 15)]).collect()
 }
 
 /// The bytes that such text stands for; nothing if it doesn't.

@@ -3,7 +3,7 @@
 //!
 //! The text is part of this project, so a mistake in it stops the program.
 
-use crate::rules::question::*;
+use oracle::rules::question::*;
 
 /// A list definition whose columns have names.
 #[derive(Clone)]

@@ -1,7 +1,7 @@
 //! Sound questions of every shape.
 
-use super::Chance;
-use crate::rules::question::*;
+use crate::Chance;
+use oracle::rules::question::*;
 use std::ops::Range;
 
 /// A question within all limits; some are at the limits.

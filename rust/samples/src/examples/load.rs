@@ -3,7 +3,7 @@
 
 use super::sketch::Sketch;
 use super::Example;
-use crate::rules::question::Question;
+use oracle::Question;
 
 const REGIONS: [(&str, i32); 3] = [("East", 10), ("Cent", 20), ("West", 30)];
 

@@ -1,22 +1,19 @@
 //! Questions with known answers: the twelve cases of docs/FORMAT.md and the published examples of the reports
-//! 000 (Blakeley, Coburn, Larson: TR 235) and 002 (Blakeley: CS-87-32), as text; and recorded answers.
+//! 000 (Blakeley, Coburn, Larson: TR 235) and 002 (Blakeley: CS-87-32), as text.
 
 mod load;
-mod recorded;
 mod report_000;
 mod report_002;
 mod sketch;
 mod twelve;
 
 pub use load::{load, xyz};
-pub use recorded::{hard, printed, recorded, Recorded, ASK_ROOM};
 pub use report_000::report_000;
 pub use report_002::report_002;
 pub use twelve::{shortcuts, twelve};
 
-use crate::hex::hex;
-use crate::rules::encode::encode;
-use crate::rules::question::Question;
+use crate::hex;
+use oracle::{encode, Question};
 
 /// A question beside what is said of it. Verdicts are written `irrelevant/computable`: `no/yes`, with
 /// `-` where a report says nothing that answers the question.

@@ -1,12 +1,12 @@
 //! Sheets that pass though the writer would not write them.
 
-use super::Chance;
-use crate::rules::edges::Edges;
-use crate::rules::facts::edge;
-use crate::rules::formula::Formula;
-use crate::rules::question::Question;
-use crate::rules::sheet::{values_in, Verdict, Worked};
-use crate::rules::trouble::trouble;
+use crate::Chance;
+use oracle::rules::edges::Edges;
+use oracle::rules::facts::edge;
+use oracle::rules::formula::Formula;
+use oracle::rules::sheet::{values_in, Worked};
+use oracle::rules::trouble::trouble;
+use oracle::{Question, Verdict};
 
 /// A sheet with the same verdict as the writer's: other leaves and branches, or other rows.
 pub fn other_sheet(chance: &mut Chance, question: &Question, asked: u8, worked: &Worked) -> Vec<u8> {
