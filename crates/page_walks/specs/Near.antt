@@ -49,11 +49,11 @@ module _ (N : ℕ) where
   -- least sums by themselves: 0 from each vertex to itself, and no way round is less
   pub record Least (near : Weights) : Type 0 where
     pub itself : (u : ℕ) → u < N → near u u ≡ pos 0
-    pub triangle : (u v x : ℕ) → u < N → v < N → x < N → near u x ≤ℤ (near u v +ℤ near v x)
+    pub triangle : Triangle near
 
   -- near holds the least sums of the walks between vertices below N
   pub record Closure (w near : Weights) : Type 0 where
     pub itself : (u : ℕ) → u < N → near u u ≡ pos 0
     pub edge : (u v : ℕ) → u < N → v < N → near u v ≤ℤ w u v
-    pub triangle : (u v x : ℕ) → u < N → v < N → x < N → near u x ≤ℤ (near u v +ℤ near v x)
+    pub triangle : Triangle near
     pub reached : (u v : ℕ) → u < N → v < N → Reached w u v (near u v)

@@ -4,7 +4,7 @@ use formula::formulas::formula_count;
 use question::types::Question;
 use room::Spot;
 use room::put_all;
-use writer_rows::showing::put_refutation;
+use writer_rows::rows::put_refutation;
 use writer_trees::descending::first_leaf;
 use writer_trees::planting::plant_formula;
 ghost use mathlib.Core.Path.{_≡_};

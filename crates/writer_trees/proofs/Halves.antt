@@ -29,6 +29,7 @@ use Rattle.room.specs.Room.{filling, putOne, puts}
 use Rattle.writer_trees.specs.Growing.{decisions, Grows, Placing, Ready, cutBytes, fastAt, sideBy}
 use Rattle.room.specs.declared.Spot.{Spot}
 use Rattle.page_questions.specs.Accepted.{Every}
+use Rattle.page_sheets.proofs.Fasts.{UpTo}
 use Rattle.page_sheets.proofs.FastAmong.{SameBelow, Ends, fast-table}
 use Rattle.program.proofs.Lends.{lent-most, lent-place}
 use Rattle.truth.proofs.Cells.{decided-more}
@@ -137,5 +138,5 @@ module _ (last : ℕ) (F : Formula) (kinds left right : List ℕ) (most : List �
   side-calm x facts₁ closer₁ e i j old new s r t ready h =
       let todo = drop decided (places (F .program)) in
       let h₂ = subst (λ y. Grows old s (fastAt last F decided truths facts y) new r) j (subst (λ y. Grows old s (fastAt last F decided truths y closer₁) new r) i h) in
-      rw (subst (λ y. ltZ y (pos 0) ≡ false) e t) (grows-same last F (fast last F todo so-far facts (after (weight near) q)) (fast last F todo so-far facts (weight closer))
+      rw (subst (λ y. ltZ y (pos 0) ≡ false) e t) (grows-same (UpTo last) (fast last F todo so-far facts (after (weight near) q)) (fast last F todo so-far facts (weight closer))
       (fast-table last F todo so-far facts (after (weight near) q) (weight closer) (closer-same (ready .places .few) (ready .table)) (all-drop (Ends last F) decided (places (F .program)) (all-ends last F kinds left right most lent (ready .places)))) old s new r h₂)

@@ -1,5 +1,5 @@
 -- Going down to a formula's first open leaf.
-use Prim.Native.Nat.{ℕ, suc, _≤_, _<_}
+use Prim.Native.Nat.{ℕ, suc, _≤_}
 use mathlib.Core.Path.{_≡_}
 use mathlib.Core.Logic.{_⊎_}
 use mathlib.Core.Bool.{Bool, true, false}
@@ -66,9 +66,9 @@ pub record Descendable (kinds left right : List ℕ) (most : List ℤ) (t : Tree
   pub values : Values
   pub opening : Opening kinds left right most t near formula values
 
--- these values, at the vertices up to the last
-abbrev pub Leaf : ℕ → Values → List ℤ → Type 0
-Leaf last x values = (v : ℕ) → v < suc last → getD values v (pos 0) ≡ x v
+-- these values, at such vertices
+abbrev pub Leaf : (ℕ → Type 0) → Values → List ℤ → Type 0
+Leaf H x values = (v : ℕ) → H v → getD values v (pos 0) ≡ x v
 
 -- a compiled formula that is open
 pub record FineOpen (f : compiled.Formula) : Type 0 where

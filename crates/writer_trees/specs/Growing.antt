@@ -8,7 +8,6 @@ use lib.IntN.{ℤ}
 use Rattle.page_meaning.specs.Limits.{mostVertices, mostDecisions}
 use Rattle.page_walks.specs.Grid.{Grid, weight, tighten}
 use Rattle.page_walks.specs.Sizes.{Sized}
-use Rattle.page_walks.specs.Near.{Closure}
 use Rattle.page_formulas.specs.Program.{Place, places}
 use Rattle.truth.specs.Cells.{bit}
 use Rattle.page_formulas.specs.Formulas.{Formula}
@@ -20,6 +19,7 @@ use Rattle.page_sheets.specs.Grow.{Growth, shut, openAt}
 use Rattle.room.specs.Room.{filling, puts}
 use Rattle.room.specs.declared.Spot.{Spot}
 use Rattle.grid.specs.Edges.{Fact, Kept}
+use Rattle.tableau.specs.Closed.{Tight}
 
 -- the decisions made so far, from their bytes
 abbrev pub decisions : List ℕ → ℕ → List Bool
@@ -55,9 +55,9 @@ pub record Placing (last : ℕ) (left right : List ℕ) (most : List ℤ) : Type
   pub as-long : (length left ≡ length most) × (length right ≡ length most) × (length most ≤ mostDecisions)
   pub facts : (i : ℕ) → i < length most → (d : Bool) → Fact last (taken (placeAt left right most i) d .right) (taken (placeAt left right most i) d .left) (taken (placeAt left right most i) d .most)
 
--- and a grid of such facts with its closure
+-- and a grid of such facts, with a table of least sums
 pub record Ready (last : ℕ) (left right : List ℕ) (most : List ℤ) (g near : Grid) : Type 0 where
   pub places : Placing last left right most
-  pub closed : Closure (suc last) (weight g) (weight near)
   pub kept : Kept g
   pub table : Sized mostVertices near
+  pub tight : Tight (suc last) near

@@ -2,21 +2,23 @@
 // half. The tableau tells, so no tree is walked.
 use crate::growing::Edge;
 use crate::growing::known_so_far;
-use crate::starting::near_start;
 use closure::relax_in;
 use grid::edge;
 use ints::weights::negation;
 use program::types::Formula;
+use spreads::begin;
 use tableau::opening::opens_under;
 use tableau::treeing::tree;
 use tableau::types::Tree;
 use truth::knowing::Truth;
 ghost use mathlib.Core.Path.{_≡_};
-ghost use lib.ListN.{length};
+ghost use Prim.Native.Nat.{suc, _<_};
+ghost use lib.Dec.{T};
 ghost use Rattle.truth.specs.Cells.{threeOf};
 ghost use Rattle.page_formulas.specs.Formulas as written;
 ghost use Rattle.page_formulas.specs.Program.{Program, Values};
 ghost use Rattle.page_formulas.specs.Proper.{Proper};
+ghost use Rattle.page_formulas.specs.Vertices.{present};
 ghost use Rattle.program.specs.Compiled.{Compiled};
 ghost use Rattle.page_sheets.specs.Grow.{growTree, openAt};
 ghost use Rattle.page_sheets.specs.Sheet.{lastVertex};
@@ -58,7 +60,7 @@ fn descend(
     root: [[i64; 17]; 17],
 ) -> [i64; 17]
     requires { ⌜ Descendable (now kinds) (now left) (now right) (now most) t root ⌝ }
-    ensures { λ r. ⌜ ((F : written.Formula) (x : Values) → Opening (now (kinds .entry)) (now (left .entry)) (now (right .entry)) (now (most .entry)) t root F x → Leaf (t .last) x r) ⌝ }
+    ensures { λ r. ⌜ ((F : written.Formula) (x : Values) → Opening (now (kinds .entry)) (now (left .entry)) (now (right .entry)) (now (most .entry)) t root F x → Leaf (λ v. v < suc (t .last)) x r) ⌝ }
 {
     let mut near = root;
     let mut truths = [0u8; 120];
@@ -97,14 +99,14 @@ fn descend(
 // The same of a compiled formula.
 pub fn first_leaf(f: Formula) -> [i64; 17]
     requires { ⌜ FineOpen f ⌝ }
-    ensures { λ r. ⌜ ((F : written.Formula) (x : Values) → Compiled f F → Proper F → growTree lastVertex F ≡ openAt x → Leaf (length (F .ranges)) x r) ⌝ }
+    ensures { λ r. ⌜ ((F : written.Formula) (x : Values) → Compiled f F → Proper F → growTree lastVertex F ≡ openAt x → Leaf (λ v. T (present (F .ranges) v)) x r) ⌝ }
 {
     let p = f.program;
     let v = f.vertices;
     let flags = v.present;
     let lo = v.lo;
     let hi = v.hi;
-    let near = near_start(v.count, flags, lo, hi);
+    let near = begin(v.count, flags, lo, hi);
     let t = tree(p, v.count - 1);
     let kinds = p.kinds;
     let left = p.left;

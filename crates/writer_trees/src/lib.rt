@@ -2,4 +2,3 @@
 pub mod descending;
 pub mod growing;
 pub mod planting;
-mod starting;

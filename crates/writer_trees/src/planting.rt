@@ -1,9 +1,9 @@
 // A formula's tree from its root.
 use crate::growing::grow;
-use crate::starting::near_start;
 use facts::start;
 use program::types::Formula;
 use room::Spot;
+use spreads::begin;
 ghost use Rattle.page_formulas.specs.Formulas as written;
 ghost use Rattle.program.specs.Compiled.{Compiled, Fine, Ranging, Plantable};
 ghost use Rattle.page_formulas.specs.Proper.{Proper};
@@ -30,7 +30,7 @@ pub fn plant(
     ensures { λ r. ⌜ ((F : written.Formula) → Coded F kinds n left right most few → Ranging (F .ranges) count flags lo hi → Proper F → Grows (now (room .entry)) spot (growTree lastVertex F) (now (room .exit)) r) ⌝ }
 {
     let facts = start(flags, lo, hi);
-    let near = near_start(count, flags, lo, hi);
+    let near = begin(count, flags, lo, hi);
     grow(
         room,
         spot,

@@ -8,8 +8,9 @@ use Rattle.program.specs.Lent.{Coded}
 use Rattle.program.specs.Compiled.{Compiled}
 use Rattle.program.proofs.Ranges.{coded-of, ranging-of, ranged}
 use Rattle.facts.proofs.Places.{lengths}
-use Rattle.writer_trees.specs.Starting.{NearStarts}
-use Rattle.writer_trees.proofs.Plants.{near-of}
+use Rattle.page_meaning.specs.Limits.{mostVertices}
+use Rattle.page_walks.proofs.Rows.{sized}
+use Rattle.writer_trees.proofs.Plants.{Begun, begun-of}
 use Rattle.writer_trees.proofs.Roots.{kinds-long, reaches, root-opening, root-values, root-descendable, root-leaf}
 use borrow.Author.Needs.{needs}
 use Rattle.writer_trees.proofs.descending.first_leaf.Statement.{statement}
@@ -19,8 +20,8 @@ use Rattle.writer_trees.proofs.descending.first_leaf.Tie as tie
 coded : (s : tie.Start) → let p = s .args .f .program in Coded (s .pre .formula) (p .kinds) (p .count) (p .left) (p .right) (p .most) (p .places)
 coded s = coded-of (s .args .f) (s .pre .formula) (s .pre .is)
 
-near-start-requires : tie.Need-near-start-requires
-near-start-requires c κs =
+begin-requires : tie.Need-begin-requires
+begin-requires c κs =
     let s = c .before .before .before .before .before in
     let q = s .pre in
     ranged _ _ _ _ _ (ranging-of (s .args .f) (q .formula) (q .is) (q .proper .vertices)) (q .proper .ranges-small) (q .proper .ranges-some)
@@ -59,8 +60,8 @@ slice-aggregate-descend-4 : tie.Need-slice-aggregate-descend-4
 slice-aggregate-descend-4 c = let s = c .before .before .before .before .before .before .before .before .before .before .before .before .before .before .before .before in sym (lengths _ _ _ _ _ _ _ (coded s) .2)
 
 -- the closure is that of the ranges
-near-is : (c : tie.After-near-start) → let f = c .before .before .before .before .before .before .args .f in (F : Formula) → Compiled f F → Proper F → NearStarts (suc (length (F .ranges))) (F .ranges) (c .near-start .result)
-near-is c = λ F is proper. near-of _ _ _ _ _ _ (ranging-of (c .before .before .before .before .before .before .args .f) F is (proper .vertices)) (c .near-start .ensures)
+near-is : (c : tie.After-begin) → let f = c .before .before .before .before .before .before .args .f in (F : Formula) → Compiled f F → Proper F → Begun F (c .begin .result)
+near-is c = λ F is proper. begun-of F proper _ _ _ _ (ranging-of (c .before .before .before .before .before .before .args .f) F is (proper .vertices)) (c .begin .result) (sized mostVertices (c .begin .result) _ (c .begin .ok)) (c .begin .ensures)
 
 -- and the tree has the last vertex
 last-is : (c : tie.After-tree) → let f = c .before .before .before .before .before .before .before .before .args .f in (F : Formula) → Compiled f F → c .tree .result .last ≡ length (F .ranges)
@@ -89,7 +90,7 @@ pub first-leaf-spec : {M : Type 1} → statement M
 first-leaf-spec =
     tie.close
     (tie.spec
-    near-start-requires
+    begin-requires
     sub-tree
     tree-requires
     array-share-prefix-kinds

@@ -14,8 +14,8 @@ use Rattle.page_walks.specs.Near.{relax, Triangle}
 use Rattle.tableau.specs.Closed.{Tight}
 use Rattle.tableau.proofs.Tightens.{tight-within, sum-fits, below-zero, from-zero}
 use Rattle.writer_trees.specs.Descending.{with}
-use Rattle.writer_trees.proofs.Growths.{fact-bounded, fact-fits}
-use Rattle.writer_trees.proofs.Tries.{with-tight, answered}
+use Rattle.writer_trees.proofs.Growths.{fact-bounded, fact-fits, with-closer}
+use Rattle.writer_trees.proofs.Tries.{answered}
 use borrow.Author.Needs.{needs}
 use Rattle.writer_trees.proofs.descending.opens_with.Statement.{statement}
 use Rattle.writer_trees.proofs.descending.opens_with.Tie as tie
@@ -64,14 +64,14 @@ opens-under-requires c κs =
     let s = c .before .before .before .before .before .before .before .before .before .before in
     let a = s .args in
     let q = s .pre in
-    ((q .program, q .tells), subst (Tight (suc (a .t .last))) (sym (with-is (c .before))) (with-tight (a .t .last) (q .tells .laid .few) (now (a .near)) (q .table) (a .e .from) (a .e .to) (a .e .weight) (q .tight) (q .fact) (from-zero _ _ (sum-is (c .before .before .before .before .before .before)) (c .before .before .before .before .before .if1 .left))))
+    ((q .program, q .tells), subst (Tight (suc (a .t .last))) (sym (with-is (c .before))) (with-closer (a .t .last) (q .tells .laid .few) (now (a .near)) (q .table) (q .tight) (a .e .from) (a .e .to) (a .e .weight) (q .fact) (from-zero _ _ (sum-is (c .before .before .before .before .before .before)) (c .before .before .before .before .before .if1 .left)) .tight))
 
 returns-2 : tie.Need-returns-2
 returns-2 c =
     let s = c .before .before .before .before .before .before .before .before .before .before .before in
     let a = s .args in
     let q = s .pre in
-    λ p tells. answered (a .t .last) (q .tells .laid .few) (now (a .near)) (q .table) (a .e .from) (a .e .to) (a .e .weight) (c .opens-under .result .«open») (c .opens-under .result .values) p _ (with-is (c .before .before)) (from-zero _ _ (sum-is (c .before .before .before .before .before .before .before)) (c .before .before .before .before .before .before .if1 .left)) (c .opens-under .ensures p tells)
+    λ p tells. answered (a .t .last) (now (a .near)) (a .e .from) (a .e .to) (a .e .weight) (c .opens-under .result .«open») (c .opens-under .result .values) p _ (with-is (c .before .before)) (from-zero _ _ (sum-is (c .before .before .before .before .before .before .before)) (c .before .before .before .before .before .before .if1 .left)) (c .opens-under .ensures p tells)
 
 pub opens-with-spec : {M : Type 1} → statement M
 opens-with-spec =

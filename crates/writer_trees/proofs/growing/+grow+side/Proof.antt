@@ -14,9 +14,10 @@ use Rattle.page_walks.specs.Near.{relax, Triangle}
 use native.Mathlib.Numerals.{add-one}
 use lib.ListN.{length, getD}
 use Rattle.truth.specs.Cells.{threeOf}
+use Rattle.tableau.proofs.Tightens.{tight-within}
 use Rattle.writer_trees.specs.Growing.{sideBy}
 use Rattle.writer_trees.proofs.Halves.{grows-false, grows-true, grows-end, branch-both, side-cut, side-calm}
-use Rattle.writer_trees.proofs.Growths.{near-within, fact-bounded, fact-fits, ready-handed, grows-over}
+use Rattle.writer_trees.proofs.Growths.{fact-bounded, fact-fits, ready-handed, grows-over}
 use borrow.Author.Needs.{needs}
 use native.Mathlib.Omega.{arith}
 use Prim.Native.Nat.{ℕ, suc, _+_, _-_, _<_}
@@ -178,7 +179,7 @@ side-returns t c =
 side-fits : (t : ℕ) (s : side-lts.Start (side-calls t) (side-at t) side.Post) → SFits w64 (weight (now (s .args .near)) (s .args .e .to) (s .args .e .from) +ℤ s .args .e .weight)
 side-fits t s =
     let a = s .args in
-    let b = near-within (a .last) (now (a .left)) (now (a .right)) (now (a .most)) (now (a .g)) (now (a .near)) (s .pre .1 .3) .entry (a .e .to) (a .e .from) (s .pre .1 .2 .to-is) (s .pre .1 .2 .from-is) in
+    let b = tight-within (suc (a .last)) (now (a .near)) (s .pre .1 .3 .tight) .entry (a .e .to) (a .e .from) (s .pre .1 .2 .to-is) (s .pre .1 .2 .from-is) in
     omega (arith, machine, b .high, b .low, s .pre .1 .2 .high, s .pre .1 .2 .low, +law (weight (now (a .near)) (a .e .to) (a .e .from)) (a .e .weight))
 
 -- the edge's weight fits
@@ -227,7 +228,7 @@ side-relax-in-requires : (t : ℕ) → side-lts.Need-relax-in-requires (side-cal
 side-relax-in-requires t c κs =
     let s = c .before .before .before .before .before .before .before .before .before .before .before .before .before .before .before in
     let a = s .args in
-    ((omega (arith, s .pre .1 .3 .places .few), omega (arith, s .pre .1 .2 .from-is), omega (arith, s .pre .1 .2 .to-is), s .pre .1 .3 .table), (simp (toZ-ofZ, weight-fits t s) (fact-bounded (a .last) (a .e .from) (a .e .to) (a .e .weight) (s .pre .1 .2)), (simp add-one (near-within (a .last) (now (a .left)) (now (a .right)) (now (a .most)) (now (a .g)) (now (a .near)) (s .pre .1 .3)), subst (λ n. Triangle n (weight (now (a .near)))) (sym (add-one (a .last))) (s .pre .1 .3 .closed .triangle))))
+    ((omega (arith, s .pre .1 .3 .places .few), omega (arith, s .pre .1 .2 .from-is), omega (arith, s .pre .1 .2 .to-is), s .pre .1 .3 .table), (simp (toZ-ofZ, weight-fits t s) (fact-bounded (a .last) (a .e .from) (a .e .to) (a .e .weight) (s .pre .1 .2)), (simp add-one (tight-within (suc (a .last)) (now (a .near)) (s .pre .1 .3 .tight)), subst (λ n. Triangle n (weight (now (a .near)))) (sym (add-one (a .last))) (s .pre .1 .3 .tight .triangle))))
 
 -- the facts that are handed on
 facts-are : (t : ℕ) (c : side-lts.After-tighten (side-calls t) (side-at t) side.Post) → let a = c .before .before .before .before .before .before .before .before .before .before .before .before .args in c .tighten .result ≡ tighten (now (a .g)) (a .e .from) (a .e .to) (a .e .weight)

@@ -4,10 +4,15 @@ use mathlib.Core.Path.{sym}
 use denote.Ref.{now}
 use lib.ListN.{length, take}
 use lib.Seq.{length-take-le}
+use Rattle.page_meaning.specs.Limits.{mostVertices}
+use Rattle.page_walks.proofs.Rows.{sized}
+use Rattle.page_formulas.specs.Formulas.{Formula}
+use Rattle.page_formulas.specs.Proper.{Proper}
+use Rattle.program.specs.Compiled.{Ranging}
 use Rattle.program.proofs.Lends.{small-spans}
 use Rattle.program.proofs.Ranges.{ranged}
 use Rattle.facts.proofs.Places.{lengths}
-use Rattle.writer_trees.proofs.Plants.{root-ready, root-grows, near-of}
+use Rattle.writer_trees.proofs.Plants.{root-ready, root-grows, Begun, begun-of}
 use borrow.Author.Needs.{needs}
 use Rattle.writer_trees.proofs.planting.plant.Statement.{statement}
 use Rattle.writer_trees.proofs.planting.plant.Tie as tie
@@ -17,10 +22,14 @@ start-requires c κs =
     let q = c .before .pre in
     small-spans _ _ _ _ (q .ranging .spans) (q .proper .ranges-small)
 
-near-start-requires : tie.Need-near-start-requires
-near-start-requires c κs =
+begin-requires : tie.Need-begin-requires
+begin-requires c κs =
     let q = c .before .before .pre in
     ranged _ _ _ _ _ (q .ranging) (q .proper .ranges-small) (q .proper .ranges-some)
+
+-- the closure is that of the ranges
+near-is : (c : tie.After-begin) → let a = c .before .before .before .args in (F : Formula) → Ranging (F .ranges) (a .count) (a .flags) (a .lo) (a .hi) → Proper F → Begun F (c .begin .result)
+near-is c = λ F ranging proper. begun-of F proper _ _ _ _ ranging (c .begin .result) (sized mostVertices (c .begin .result) _ (c .begin .ok)) (c .begin .ensures)
 
 array-share-prefix-kinds : tie.Need-array-share-prefix-kinds
 array-share-prefix-kinds c = search needs
@@ -65,7 +74,7 @@ grow-requires c κs =
     let l = lengths _ _ _ _ _ _ _ (q .coded) in (
       omega (arith, length-take-le (a .n) (a .t3) (omega (arith, s .good .1 .1 .0 .1 .0 .1, q .coded .n-is, q .proper .short)), q .coded .n-is, q .proper .short),
       omega (arith, l .2),
-      root-ready _ _ _ _ _ _ _ (q .coded) (q .proper) (a .count - 1) (omega (arith, q .ranging .count-is)) _ _ (c .before .before .before .before .before .before .before .before .start .ensures .meaning _ (q .ranging .spans)) (near-of _ _ _ _ _ _ (q .ranging) (c .before .before .before .before .before .before .before .near-start .ensures)),
+      root-ready _ _ _ _ _ _ _ (q .coded) (q .proper) (a .count - 1) (omega (arith, q .ranging .count-is)) _ _ (c .before .before .before .before .before .before .before .before .start .ensures .meaning _ (q .ranging .spans)) (near-is (c .before .before .before .before .before .before .before) (q .formula) (q .ranging) (q .proper)),
     )
 
 same-length : tie.Need-same-length
@@ -75,14 +84,14 @@ returns : tie.Need-returns
 returns c =
     let s = c .before .before .before .before .before .before .before .before .before .before .before .before .before in
     let a = s .args in
-    λ F coded ranging proper. root-grows F _ _ _ _ _ _ coded proper (a .count - 1) (length (take (a .few) (a .t7)) - a .few) (omega (arith, ranging .count-is)) (omega (arith, lengths F _ _ _ _ _ _ coded .2)) _ _ _ (c .before .before .before .before .before .before .before .before .before .before .before .start .ensures .meaning _ (ranging .spans)) (near-of _ _ _ _ _ _ ranging (c .before .before .before .before .before .before .before .before .before .before .near-start .ensures)) (now (a .room)) (a .spot) _ _ (c .before .before .grow .ensures F (coded .lent))
+    λ F coded ranging proper. root-grows F _ _ _ _ _ _ coded proper (a .count - 1) (length (take (a .few) (a .t7)) - a .few) (omega (arith, ranging .count-is)) (omega (arith, lengths F _ _ _ _ _ _ coded .2)) _ _ _ (c .before .before .before .before .before .before .before .before .before .before .before .start .ensures .meaning _ (ranging .spans)) (near-is (c .before .before .before .before .before .before .before .before .before .before) F ranging proper) (now (a .room)) (a .spot) _ _ (c .before .before .grow .ensures F (coded .lent))
 
 pub plant-spec : {M : Type 1} → statement M
 plant-spec =
     tie.close
     (tie.spec
     start-requires
-    near-start-requires
+    begin-requires
     array-share-prefix-kinds
     slice-aggregate-grow
     array-share-prefix-left
