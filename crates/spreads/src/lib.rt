@@ -36,12 +36,10 @@ fn spread_at(
     requires { ⌜ Ranged count flags lo hi × (u < count) × (v < count) ⌝ }
     ensures { λ r. ⌜ r ≡ spread flags lo hi u v ⌝ }
 {
-    if u == v {
-        return 0;
-    }
     let top = end_at(flags, hi, v);
     let low = end_at(flags, lo, u);
-    difference(top, low)
+    let apart = difference(top, low);
+    if u == v { 0 } else { apart }
 }
 
 // Of all vertices above u.

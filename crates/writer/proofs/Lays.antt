@@ -33,7 +33,7 @@ use Rattle.room.specs.declared.Spot.{Spot}
 use Rattle.room.proofs.Puts.{Stand, puts-append, puts-length, puts-fit, puts-past}
 use Rattle.writer_rows.specs.Rows.{Rowed, Alike}
 use Rattle.writer_rows.proofs.ShownFormulas.{rows-there}
-use Rattle.writer_trees.specs.Descending.{FineOpen, Leaf}
+use Rattle.writer_trees.specs.Leaves.{FineOpen, Leaf}
 use Rattle.writer.specs.Finding.{Finds}
 use Rattle.writer.specs.Laying.{atStart, AllShut, OpenFirst, StandsIf, Lays}
 use Rattle.writer.specs.declared.finding.Found.{Found}

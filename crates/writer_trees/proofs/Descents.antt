@@ -30,7 +30,7 @@ use Rattle.page_sheets.proofs.Fasts.{UpTo, Same, same-trans, same-open}
 use Rattle.page_sheets.proofs.FastAmong.{SameBelow, fast-table}
 use Rattle.page_sheets.proofs.Steps.{fast-end}
 use Rattle.page_sheets.proofs.Descends.{Down, TrueIn, down-next, down-table, true-table, table-true, leaf-known, leaf-false, TrueShut, down-true, down-false}
-use Rattle.writer_trees.specs.Growing.{decisions, Placing, fastAt}
+use Rattle.writer_trees.specs.Trees.{decisions, Placing, fastAt}
 use Rattle.writer_trees.proofs.Halves.{known-lent, all-ends, closer-same}
 
 module _ (last : ℕ) (F : Formula) where
@@ -108,7 +108,7 @@ module _ (last : ℕ) (F : Formula) where
           beyond = fast last F todo (ds ++ d ∷ []) (decide (at .facts) p d) (after (weight near) (taken p d))
 
           pub same-beyond : SameBelow last F (after (weight near) (taken p d)) (weight closer)
-          same-beyond u v hu hv = closer-same last F kinds left right most lent truths (at .facts) near decided (taken p d .right) (taken p d .left) (taken p d .most) few table u v hu hv ∙ ap (λ c. weight c u v) (sym closer-is)
+          same-beyond u v hu hv = closer-same last F near few table (taken p d) u v hu hv ∙ ap (λ c. weight c u v) (sym closer-is)
 
           onward : pos 0 ≤ℤ (weight near (taken p d .left) (taken p d .right) +ℤ taken p d .most) → Same (UpTo last) (openAt x) beyond → Leading x n (set truths decided b) closer
           onward calm s =

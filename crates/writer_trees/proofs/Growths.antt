@@ -17,7 +17,6 @@ use mir.Val.{SFits}
 use Rattle.page_meaning.specs.Limits.{mostVertices}
 use Rattle.page_walks.specs.Grid.{Grid, weight, tighten, far, farN}
 use Rattle.page_walks.specs.Sizes.{least-weight, Bounded, Sized, AllWithin}
-use Rattle.page_walks.specs.Near.{Least}
 use Rattle.cycles.specs.Found as Found
 use Rattle.cycles.specs.declared.Cycle.{Cycle}
 use Rattle.page_walks.proofs.Grids.{tighten-keeps, tighten-le, tighten-sized}
@@ -28,8 +27,8 @@ use Rattle.page_sheets.specs.Grow.{Growth, shut, openAt, join}
 use Rattle.room.specs.Room.{Filling, filling, putOne, puts}
 use Rattle.tableau.specs.Closed.{Tight, Closer}
 use Rattle.tableau.proofs.Tightens.{closer-tabled}
-use Rattle.writer_trees.specs.Growing.{Grows, Ready, cutBytes}
-use Rattle.writer_trees.specs.Descending.{with}
+use Rattle.writer_trees.specs.Trees.{Grows, Ready, cutBytes}
+use Rattle.writer_trees.specs.Leaves.{with}
 use Rattle.grid.specs.Edges.{Fact, Kept}
 use Rattle.room.specs.declared.Spot.{Spot}
 use Rattle.page_sheets.proofs.Fasts.{Same}
@@ -78,9 +77,6 @@ module _ (last from to : ℕ) (k : ℤ) (fact : Fact last from to k) where
     ceiling = λ u v. omega (ints, tighten-le g from to k u v, kept .ceiling u v);
     floor = λ u v. tighten-keeps (λ z. dn z ≤ least-weight) g from to k u v (kept .floor u v) (λ a b. fact .low);
   }
-
-pub least-of : (n : ℕ) (near : Grid) → Tight n near → Least n (weight near)
-least-of n near t = record { itself = t .itself; triangle = t .triangle }
 
 -- the table of least sums with it, where it closes no negative cycle
 pub with-closer : (last : ℕ) → last < mostVertices → (near : Grid) → Sized mostVertices near → Tight (suc last) near → (from to : ℕ) (k : ℤ) → Fact last from to k → pos 0 ≤ℤ (weight near to from +ℤ k) → Closer (suc last) near from to k (with last near from to k)

@@ -25,7 +25,7 @@ use Rattle.spreads.specs.Spread.{spread}
 use Rattle.spreads.proofs.Spreads.{begun-ranges}
 use Rattle.tableau.specs.Closed.{Tight}
 use Rattle.tableau.proofs.Roots.{begun}
-use Rattle.writer_trees.specs.Growing.{Grows, Placing, Ready, fastAt}
+use Rattle.writer_trees.specs.Trees.{Grows, Placing, Ready, fastAt}
 use Rattle.program.specs.Lent.{Coded}
 use Rattle.program.specs.Compiled.{Ranging}
 use Rattle.room.specs.declared.Spot.{Spot}

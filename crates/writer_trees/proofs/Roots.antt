@@ -20,8 +20,8 @@ use Rattle.page_sheets.proofs.Fit.{present-below}
 use Rattle.tableau.specs.Closed.{Tight}
 use Rattle.tableau.specs.Nodes.{Tells}
 use Rattle.tableau.specs.declared.types.Tree.{Tree}
-use Rattle.writer_trees.specs.Growing.{Placing, fastAt}
-use Rattle.writer_trees.specs.Descending.{Opening, Descendable, Leaf}
+use Rattle.writer_trees.specs.Trees.{Placing, fastAt}
+use Rattle.writer_trees.specs.Leaves.{Opening, Descendable, Leaf}
 use Rattle.writer_trees.proofs.Plants.{Begun, placing, planted-same}
 
 -- ---- the parts that are lent are as long as said

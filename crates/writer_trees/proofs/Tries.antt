@@ -23,12 +23,13 @@ use Rattle.page_sheets.proofs.Fasts.{Same}
 use Rattle.page_sheets.proofs.Descends.{TrueIn}
 use Rattle.grid.specs.Edges.{Fact}
 use Rattle.tableau.specs.Closed.{Tight}
+use Rattle.tableau.proofs.Tightens.{tight-least}
 use Rattle.tableau.specs.Nodes.{Tells}
 use Rattle.tableau.specs.Goals.{Opens, held, TrueUnder}
 use Rattle.tableau.specs.declared.types.Tree.{Tree}
-use Rattle.writer_trees.specs.Growing.{decisions, fastAt}
-use Rattle.writer_trees.specs.Descending.{passing, with, Tries, Opening, Descendable}
-use Rattle.writer_trees.proofs.Growths.{least-of, with-closer}
+use Rattle.writer_trees.specs.Trees.{decisions, fastAt}
+use Rattle.writer_trees.specs.Leaves.{passing, with, Tries, Opening, Descendable}
+use Rattle.writer_trees.proofs.Growths.{with-closer}
 use Rattle.writer_trees.proofs.Descents.{Leading, leading-start, leading-true, NotTrue, calm-false, leading-false}
 
 pub passing-is : (k : Three) → passing k ≡ true → k ≡ passes
@@ -56,7 +57,7 @@ module _ (kinds left right : List ℕ) (most : List ℤ) (t : Tree) (root : Grid
     going-start truths = record {
       table = d .table;
       tight = d .tight;
-      leading = λ F x o. leading-start (t .last) F kinds left right most (o .lent) root (d .places) (least-of (suc (t .last)) root (d .tight)) truths (o .facts) x (rw (o .opens) (λ v h. refl));
+      leading = λ F x o. leading-start (t .last) F kinds left right most (o .lent) root (d .places) (tight-least (suc (t .last)) root (d .tight)) truths (o .facts) x (rw (o .opens) (λ v h. refl));
     }
 
     module _ (i : ℕ) (near : Grid) (truths : List ℕ) (w : Going i near truths) (h : i < length most) (long : length truths ≡ mostDecisions) (k : passing (knownKinds kinds (decisions truths i)) ≡ false) (n : ℕ) (next : n ≡ suc i) where

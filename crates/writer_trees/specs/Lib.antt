@@ -1,2 +1,2 @@
-pub mod Growing
-pub mod Descending
+pub mod Trees
+pub mod Leaves

@@ -1,11 +1,13 @@
 // A formula's first open leaf, by going down once: at each node into the true half where the formula is open there, else into the false
 // half. The tableau tells, so no tree is walked.
-use crate::growing::Edge;
-use crate::growing::known_so_far;
+use crate::trees::Edge;
+use crate::trees::known_so_far;
 use closure::relax_in;
+use grid::VERTICES;
 use grid::edge;
 use ints::weights::negation;
 use program::types::Formula;
+use program::types::PLACES;
 use spreads::begin;
 use tableau::opening::opens_under;
 use tableau::treeing::tree;
@@ -23,7 +25,7 @@ ghost use Rattle.program.specs.Compiled.{Compiled};
 ghost use Rattle.page_sheets.specs.Grow.{growTree, openAt};
 ghost use Rattle.page_sheets.specs.Sheet.{lastVertex};
 ghost use Rattle.tableau.specs.Nodes.{Tells};
-ghost use Rattle.writer_trees.specs.Descending.{passing, Tries, Triable, Opening, Descendable, Leaf, FineOpen};
+ghost use Rattle.writer_trees.specs.Leaves.{passing, Tries, Triable, Opening, Descendable, Leaf, FineOpen};
 
 // Is the formula known to be true?
 fn passes(t: Truth) -> bool
@@ -37,7 +39,7 @@ fn passes(t: Truth) -> bool
 }
 
 // Is the formula open with one more fact? If so, it is one of the facts now.
-fn opens_with(t: Tree, near: &mut [[i64; 17]; 17], e: Edge) -> bool
+fn opens_with(t: Tree, near: &mut [[i64; VERTICES]; VERTICES], e: Edge) -> bool
     requires { ⌜ Triable t (now near) (e .from) (e .to) (e .weight) ⌝ }
     ensures { λ r. ⌜ ((p : Program) → Tells t p → Tries r p (t .last) (now (near .entry)) (e .from) (e .to) (e .weight) (now (near .exit))) ⌝ }
 {
@@ -57,13 +59,13 @@ fn descend(
     right: &[u8],
     most: &[i64],
     t: Tree,
-    root: [[i64; 17]; 17],
-) -> [i64; 17]
+    root: [[i64; VERTICES]; VERTICES],
+) -> [i64; VERTICES]
     requires { ⌜ Descendable (now kinds) (now left) (now right) (now most) t root ⌝ }
     ensures { λ r. ⌜ ((F : written.Formula) (x : Values) → Opening (now (kinds .entry)) (now (left .entry)) (now (right .entry)) (now (most .entry)) t root F x → Leaf (λ v. v < suc (t .last)) x r) ⌝ }
 {
     let mut near = root;
-    let mut truths = [0u8; 120];
+    let mut truths = [0u8; PLACES];
     let mut i: usize = 0;
     while i < most.len() {
         let k = known_so_far(kinds, truths, i);
@@ -97,7 +99,7 @@ fn descend(
 }
 
 // The same of a compiled formula.
-pub fn first_leaf(f: Formula) -> [i64; 17]
+pub fn first_leaf(f: Formula) -> [i64; VERTICES]
     requires { ⌜ FineOpen f ⌝ }
     ensures { λ r. ⌜ ((F : written.Formula) (x : Values) → Compiled f F → Proper F → growTree lastVertex F ≡ openAt x → Leaf (λ v. T (present (F .ranges) v)) x r) ⌝ }
 {

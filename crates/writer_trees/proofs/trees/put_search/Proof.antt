@@ -11,8 +11,8 @@ use native.Mathlib.Omega.{arith}
 use Prim.Native.Nat.{_+_, _-_}
 use Rattle.writer_trees.proofs.Growths.{fact-fits, kept-next, kept-within, found-list}
 use borrow.Author.Needs.{needs}
-use Rattle.writer_trees.proofs.growing.put_search.Statement.{statement}
-use Rattle.writer_trees.proofs.growing.put_search.Tie as tie
+use Rattle.writer_trees.proofs.trees.put_search.Statement.{statement}
+use Rattle.writer_trees.proofs.trees.put_search.Tie as tie
 
 tighten-requires : tie.Need-tighten-requires
 tighten-requires c κs = search needs

@@ -13,8 +13,8 @@ use Rattle.page_walks.proofs.Rows.{sized}
 use Rattle.writer_trees.proofs.Plants.{Begun, begun-of}
 use Rattle.writer_trees.proofs.Roots.{kinds-long, reaches, root-opening, root-values, root-descendable, root-leaf}
 use borrow.Author.Needs.{needs}
-use Rattle.writer_trees.proofs.descending.first_leaf.Statement.{statement}
-use Rattle.writer_trees.proofs.descending.first_leaf.Tie as tie
+use Rattle.writer_trees.proofs.leaves.first_leaf.Statement.{statement}
+use Rattle.writer_trees.proofs.leaves.first_leaf.Tie as tie
 
 -- the formula's program, as it is lent
 coded : (s : tie.Start) → let p = s .args .f .program in Coded (s .pre .formula) (p .kinds) (p .count) (p .left) (p .right) (p .most) (p .places)

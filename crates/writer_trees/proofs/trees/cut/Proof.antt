@@ -2,8 +2,8 @@ use mathlib.Core.Path.{sym, ap, _∙_}
 use Rattle.truth.specs.Cells.{threeOf}
 use Rattle.writer_trees.proofs.Growths.{cut-false, cut-true, cut-open}
 use borrow.Author.Needs.{needs}
-use Rattle.writer_trees.proofs.growing.cut.Statement.{statement}
-use Rattle.writer_trees.proofs.growing.cut.Tie as tie
+use Rattle.writer_trees.proofs.trees.cut.Statement.{statement}
+use Rattle.writer_trees.proofs.trees.cut.Tie as tie
 
 known-so-far-requires : tie.Need-known-so-far-requires
 known-so-far-requires c κs = search needs

@@ -1,9 +1,9 @@
 -- What the writer's code holds at a node, and what it leaves there.
-use Prim.Native.Nat.{ℕ, suc, _≤_, _<_}
+use Prim.Native.Nat.{ℕ, suc, _-_, _≤_, _<_}
 use mathlib.Core.Path.{_≡_}
 use mathlib.Core.Bool.{Bool}
 use mathlib.Core.List.{List, [], map}
-use lib.ListN.{length, take, drop}
+use lib.ListN.{length, take, drop, set}
 use lib.IntN.{ℤ}
 use Rattle.page_meaning.specs.Limits.{mostVertices, mostDecisions}
 use Rattle.page_walks.specs.Grid.{Grid, weight, tighten}
@@ -19,6 +19,9 @@ use Rattle.page_sheets.specs.Grow.{Growth, shut, openAt}
 use Rattle.room.specs.Room.{filling, puts}
 use Rattle.room.specs.declared.Spot.{Spot}
 use Rattle.grid.specs.Edges.{Fact, Kept}
+use Rattle.writer_trees.specs.declared.trees.Edge.{Edge}
+use Rattle.writer_trees.specs.declared.trees.Half.{Half}
+use Rattle.writer_trees.specs.declared.trees.Node.{Node}
 use Rattle.tableau.specs.Closed.{Tight}
 
 -- the decisions made so far, from their bytes
@@ -39,13 +42,19 @@ cutBytes (openAt x) = []
 abbrev pub fastAt : ℕ → Formula → ℕ → List ℕ → Grid → Grid → Growth
 fastAt last F decided truths g near = fast last F (drop decided (places (F .program))) (decisions truths decided) g (weight near)
 
--- half of a branch, from its fact: an edge of weight k
-abbrev pub sideBy : ℕ → Formula → ℕ → List ℕ → Grid → Grid → ℕ → ℕ → ℤ → Growth
-sideBy last F decided truths g near from to k =
-    let q : Place = record { left = to; right = from; most = k } in
-    let facts = tighten g from to k in
-    let ds = decisions truths decided in
-    half last F (weight near) q ds facts (fast last F (drop decided (places (F .program))) ds facts (after (weight near) q))
+-- half of a branch of so many places, from its fact
+abbrev pub sideBy : Formula → ℕ → Grid → Grid → Half → Growth
+sideBy F many g near h =
+    let n = h .node in
+    let e = h .fact in
+    let q : Place = record { left = e .to; right = e .from; most = e .weight } in
+    let facts = tighten g (e .from) (e .to) (e .weight) in
+    let ds = decisions (n .truths) (many - n .undecided) in
+    half (n .last) F (weight near) q ds facts (fast (n .last) F (drop (many - n .undecided) (places (F .program))) ds facts (after (weight near) q))
+
+-- the half of a branch at a node where the next place has this truth
+abbrev pub halfOf : Node → Spot → ℕ → ℕ → Edge → Half
+halfOf n spot decided truth fact = record { node = record { spot = spot; last = n .last; undecided = n .undecided - 1; truths = set (n .truths) decided truth }; fact = fact }
 
 -- ---- what the code must be given
 

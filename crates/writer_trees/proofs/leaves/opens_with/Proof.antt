@@ -13,12 +13,12 @@ use Rattle.page_walks.specs.Sizes.{tabled}
 use Rattle.page_walks.specs.Near.{relax, Triangle}
 use Rattle.tableau.specs.Closed.{Tight}
 use Rattle.tableau.proofs.Tightens.{tight-within, sum-fits, below-zero, from-zero}
-use Rattle.writer_trees.specs.Descending.{with}
+use Rattle.writer_trees.specs.Leaves.{with}
 use Rattle.writer_trees.proofs.Growths.{fact-bounded, fact-fits, with-closer}
 use Rattle.writer_trees.proofs.Tries.{answered}
 use borrow.Author.Needs.{needs}
-use Rattle.writer_trees.proofs.descending.opens_with.Statement.{statement}
-use Rattle.writer_trees.proofs.descending.opens_with.Tie as tie
+use Rattle.writer_trees.proofs.leaves.opens_with.Statement.{statement}
+use Rattle.writer_trees.proofs.leaves.opens_with.Tie as tie
 
 edge-requires : tie.Need-edge-requires
 edge-requires c κs =

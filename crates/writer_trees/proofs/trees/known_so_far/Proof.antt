@@ -2,8 +2,8 @@ use mathlib.Core.Path.{sym}
 use native.Mathlib.Omega.{arith}
 use lib.Seq.{length-take-le}
 use borrow.Author.Needs.{needs}
-use Rattle.writer_trees.proofs.growing.known_so_far.Statement.{statement}
-use Rattle.writer_trees.proofs.growing.known_so_far.Tie as tie
+use Rattle.writer_trees.proofs.trees.known_so_far.Statement.{statement}
+use Rattle.writer_trees.proofs.trees.known_so_far.Tie as tie
 
 array-share-prefix-truths : tie.Need-array-share-prefix-truths
 array-share-prefix-truths c = search needs

@@ -5,8 +5,8 @@ use lib.Seq.{length-take-le}
 use Rattle.room.specs.Room.{putOne, puts}
 use Rattle.page_sheets.specs.Tree.{bytesOf}
 use borrow.Author.Needs.{needs}
-use Rattle.writer_trees.proofs.growing.put_cycle.Statement.{statement}
-use Rattle.writer_trees.proofs.growing.put_cycle.Tie as tie
+use Rattle.writer_trees.proofs.trees.put_cycle.Statement.{statement}
+use Rattle.writer_trees.proofs.trees.put_cycle.Tie as tie
 
 put-requires : tie.Need-put-requires
 put-requires c κs = search needs

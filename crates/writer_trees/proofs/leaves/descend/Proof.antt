@@ -19,14 +19,14 @@ use Rattle.program.specs.Lent.{placeAt}
 use Rattle.page_sheets.specs.Facts.{taken}
 use Rattle.grid.specs.Edges.{Fact}
 use Rattle.tableau.proofs.Tightens.{tight-within}
-use Rattle.writer_trees.specs.Growing.{decisions}
-use Rattle.writer_trees.specs.Descending.{passing}
+use Rattle.writer_trees.specs.Trees.{decisions}
+use Rattle.writer_trees.specs.Leaves.{passing}
 use Rattle.writer_trees.proofs.Growths.{fact-bounded, fact-fits}
 use Rattle.writer_trees.proofs.Descents.{leading-leaf, leading-end}
 use Rattle.writer_trees.proofs.Tries.{passing-is, Going, going-start, going-true, going-false}
 use borrow.Author.Needs.{needs}
-use Rattle.writer_trees.proofs.descending.descend.Statement.{statement}
-use Rattle.writer_trees.proofs.descending.descend.Tie as tie
+use Rattle.writer_trees.proofs.leaves.descend.Statement.{statement}
+use Rattle.writer_trees.proofs.leaves.descend.Tie as tie
 
 abbrev Inv-loop : tie.InvT-loop
 Inv-loop kinds left right most t near₀ truths₀ i₀ near truths i = (i ≤ length most) × (length truths ≡ mostDecisions) × Going kinds left right most t near₀ i near truths

@@ -25,7 +25,7 @@ use Rattle.tableau.specs.Nodes.{Tells}
 use Rattle.tableau.specs.Goals.{TrueUnder}
 use Rattle.tableau.specs.declared.types.Tree.{Tree}
 use Rattle.grid.specs.Edges.{Fact}
-use Rattle.writer_trees.specs.Growing.{Placing, fastAt}
+use Rattle.writer_trees.specs.Trees.{Placing, fastAt}
 
 abbrev pub passing : Three → Bool
 passing fails = false
