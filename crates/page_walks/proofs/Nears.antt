@@ -17,11 +17,6 @@ module _ (N : ℕ) where
   unfolding Sat
   least-sat near c z u v hu hv = c .triangle 0 u v z hu hv
 
-  -- where all values that meet the one meet the other, its sums are no greater
-  pub least-less : (near other : Weights) → Least N near → ((x : ℕ → ℤ) → Sat near N x → Sat other N x) → (u v : ℕ) → u < N → v < N → near u v ≤ℤ other u v
-  unfolding Sat
-  least-less near other c h u v hu hv = omega (ints, h (near u) (λ a b ha hb. c .triangle u a b hu ha hb) u v hu hv, c .itself u hu, +law (near u u) (other u v))
-
   -- ---- a new fact that closes no negative cycle keeps least sums
   module _ (near : Weights) (c : Least N near) (b a : ℕ) (k : ℤ) (hb : b < N) (ha : a < N) where
     via-law : (u v : ℕ) → up (via near b a k u v) + (dn (near u b) + dn k + dn (near a v)) ≡ dn (via near b a k u v) + (up (near u b) + up k + up (near a v))
