@@ -1,27 +1,15 @@
+// The closure of facts, the least sums of all walks along them, with one fact more.
 ghost use mathlib.Core.Path.{_≡_};
-ghost use Prim.Native.Nat.{_-_, _<_, _≤_};
+ghost use Prim.Native.Nat.{_<_, _≤_};
 ghost use lib.IntN.{pos, _+ℤ_};
 ghost use lib.ListN.{length, getD};
 ghost use Rattle.page_numbers.specs.Numbers.{minZ};
 ghost use Rattle.page_meaning.specs.Limits.{mostVertices};
-ghost use Rattle.page_walks.specs.Grid.{blank, row, weight, farN};
+ghost use Rattle.page_walks.specs.Grid.{weight, farN};
 ghost use Rattle.page_walks.specs.Sizes.{filled, tabled, wide, Bounded, Sized, RowWithin, AllWithin};
-ghost use Rattle.page_walks.specs.Search.{least};
-ghost use Rattle.page_walks.specs.Near.{relax, nearBlank, Triangle};
-use grid::FAR;
+ghost use Rattle.page_walks.specs.Near.{relax, Triangle};
 use grid::VERTICES;
 use grid::lesser;
-
-// The least sums where there is no fact: 0 from each vertex to itself.
-pub fn near_blank() -> [[i64; VERTICES]; VERTICES]
-    ensures { λ r. ⌜ r ≡ tabled nearBlank mostVertices (blank mostVertices) ⌝ }
-{
-    let mut h = [[FAR; VERTICES]; VERTICES];
-    for u in 0..VERTICES {
-        h[u][u] = 0;
-    }
-    h
-}
 
 // One row of the least sums with a new edge: reach is the sum of the way to the edge and along it, on the row of the way on.
 pub fn relax_row(row: &mut [i64], on: &[i64], n: usize, reach: i64)
@@ -57,23 +45,4 @@ pub fn relax_in(near: &mut [[i64; VERTICES]; VERTICES], n: usize, b: usize, a: u
         relax_row(&mut near[u], &on, n, reach);
         u += 1;
     }
-}
-
-// The same by value.
-pub fn relax(
-    near: [[i64; VERTICES]; VERTICES],
-    n: usize,
-    b: usize,
-    a: usize,
-    k: i64,
-) -> [[i64; VERTICES]; VERTICES]
-    requires { ⌜ (n ≤ mostVertices) × (b < n) × (a < n) ⌝ }
-    requires { ⌜ Bounded farN k ⌝ }
-    requires { ⌜ AllWithin farN n near ⌝ }
-    requires { ⌜ Triangle n (weight near) ⌝ }
-    ensures { λ r. ⌜ r ≡ tabled (relax (weight near) b a k) n near ⌝ }
-{
-    let mut h = near;
-    relax_in(&mut h, n, b, a, k);
-    h
 }

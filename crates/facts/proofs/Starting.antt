@@ -14,6 +14,7 @@ use borrow.Author.Tests.{ltb-true, ltb-false}
 use Rattle.page_numbers.proofs.Bridge.{ints, neg-up, neg-dn}
 use Rattle.page_numbers.proofs.Machine.{diff}
 use Rattle.page_meaning.specs.Contents.{Range}
+use Rattle.page_meaning.specs.Limits.{mostVertices}
 use Rattle.page_walks.specs.Grid.{Grid, farN, blank}
 use Rattle.page_walks.specs.Sizes.{least-weight, Bounded, AllWithin}
 use Rattle.page_walks.proofs.Grids.{tighten-keeps, blank-far}
@@ -78,6 +79,6 @@ module _ (rs : Ranges) (shown : List Bool) (lo hi : List ℤ) (s : Spanned rs sh
       go true c none e f = sym (vertex-on rs g i none e (ltb-true i (length rs) c))
       go false c none e f = ended (ltb-false i (length rs) c)
 
-  pub start-end : 16 ≤ i → confineAll g (i + 1) (drop i rs) ≡ g
+  pub start-end : mostVertices ≤ suc i → confineAll g (i + 1) (drop i rs) ≡ g
   unfolding confineAll
   start-end h = let k : length rs ≤ i = omega (arith, s .few) in rw (drop-of-length-le rs k)

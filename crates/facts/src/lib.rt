@@ -1,4 +1,5 @@
 // FORMAT 5.6: the facts of a formula as edges of the grid.
+use grid::VERTICES;
 ghost use mathlib.Core.Path.{_≡_};
 ghost use Prim.Native.Nat.{_<_};
 ghost use mathlib.Core.Option.{some};
@@ -9,8 +10,17 @@ ghost use Rattle.page_sheets.specs.Facts.{confine, decide};
 ghost use Rattle.program.specs.Compiled.{SmallSpans};
 ghost use Rattle.facts.specs.Starts.{Starts};
 
+// How many vertices there may be beside 0.
+const OTHERS: usize = VERTICES - 1;
+
 // The place left − right ≤ most taken as true, or as false: an edge from right to left with weight most, or back with −1 − most.
-pub fn decide(g: [[i64; 17]; 17], left: u8, right: u8, most: i64, truth: bool) -> [[i64; 17]; 17]
+pub fn decide(
+    g: [[i64; VERTICES]; VERTICES],
+    left: u8,
+    right: u8,
+    most: i64,
+    truth: bool,
+) -> [[i64; VERTICES]; VERTICES]
     requires { ⌜ (left < mostVertices) × (right < mostVertices) ⌝ }
     ensures { λ r. ⌜ r ≡ decide g (record { left = left; right = right; most = most }) truth ⌝ }
 {
@@ -23,7 +33,12 @@ pub fn decide(g: [[i64; 17]; 17], left: u8, right: u8, most: i64, truth: bool) -
 }
 
 // A vertex's range: x − 0 ≤ hi, 0 − x ≤ −lo.
-fn confine(g: [[i64; 17]; 17], v: usize, lo: i64, hi: i64) -> [[i64; 17]; 17]
+fn confine(
+    g: [[i64; VERTICES]; VERTICES],
+    v: usize,
+    lo: i64,
+    hi: i64,
+) -> [[i64; VERTICES]; VERTICES]
     requires { ⌜ (v < mostVertices) × Bounded farN lo ⌝ }
     ensures { λ r. ⌜ r ≡ confine g v (some (record { lo = lo; hi = hi })) ⌝ }
 {
@@ -32,13 +47,17 @@ fn confine(g: [[i64; 17]; 17], v: usize, lo: i64, hi: i64) -> [[i64; 17]; 17]
 }
 
 // The facts before any decision: the ranges of the vertices that are there.
-pub fn start(shown: [bool; 17], lo: [i64; 17], hi: [i64; 17]) -> [[i64; 17]; 17]
+pub fn start(
+    shown: [bool; VERTICES],
+    lo: [i64; VERTICES],
+    hi: [i64; VERTICES],
+) -> [[i64; VERTICES]; VERTICES]
     requires { ⌜ SmallSpans shown lo hi ⌝ }
     ensures { λ r. ⌜ Starts shown lo hi r ⌝ }
 {
     let mut g = grid::blank();
     let mut i: usize = 0;
-    while i < 16 {
+    while i < OTHERS {
         let v = i + 1;
         i = v;
         if shown[v] {

@@ -1,4 +1,4 @@
-// Facts between 17 vertices: a grid of edge weights by value.
+// Facts between vertices: a grid of edge weights by value.
 ghost use mathlib.Core.Path.{_≡_};
 ghost use Prim.Native.Nat.{_-_, _<_, _≤_};
 ghost use lib.ListN.{length};

@@ -15,14 +15,15 @@ use Rattle.page_formulas.specs.Formulas.{Formula}
 use Rattle.page_formulas.specs.Known.{Three, fails, passes, open?, known}
 use Rattle.page_formulas.specs.Program.{Place, places}
 use Rattle.page_formulas.specs.Vertices.{present}
-use Rattle.page_formulas.specs.Proper.{Nonempty, SmallPlace}
+use Rattle.page_formulas.specs.Proper.{SmallPlace}
 use Rattle.page_questions.specs.Accepted.{Every}
 use Rattle.page_sheets.specs.Facts.{start, taken, decide}
-use Rattle.page_sheets.specs.Fast.{sideOf, after, nearStart, strained, calmNode, strainedNode, half, fast}
+use Rattle.page_sheets.specs.Fast.{sideOf, after, strained, calmNode, strainedNode, half, fast}
 use Rattle.page_sheets.specs.Grow.{join, Growth, growTree}
-use Rattle.page_sheets.proofs.Fasts.{Same, join-same, fast-tree}
+use Rattle.page_sheets.proofs.Fasts.{Here, UpTo, Same, join-same, fast-tree}
 use Rattle.page_sheets.proofs.Fit.{Fit, present-below}
 use Rattle.page_sheets.proofs.Holds.{InBounds, bounds-start, bounds-decide}
+use Rattle.page_sheets.proofs.SameFacts.{OfRanges}
 
 module _ (n : ℕ) (F : Formula) where
   -- an edge at a vertex above the last of the ranges is missing
@@ -61,37 +62,37 @@ module _ (n : ℕ) (F : Formula) where
   unfolding relax
   after-table near near′ q s e u v hu hv = rw (s u v hu hv, s u (q .right) hu (e .1), s (q .left) v (e .0) hv)
 
-  calm-table : (near near′ : Weights) → SameBelow near near′ → (k : Three) (r r′ : Growth) → Same n F r r′ → Same n F (calmNode k (near 0) r) (calmNode k (near′ 0) r′)
+  calm-table : (near near′ : Weights) → SameBelow near near′ → (k : Three) (r r′ : Growth) → Same (UpTo n) r r′ → Same (UpTo n) (calmNode k (near 0) r) (calmNode k (near′ 0) r′)
   calm-table near near′ s fails r r′ h = refl
   calm-table near near′ s passes r r′ h = λ v hv. s 0 v (omega arith) hv
   calm-table near near′ s open? r r′ h = h
 
-  half-table : (near near′ : Weights) (q : Place) (ds : List Bool) (g : Grid) → SameBelow near near′ → Ends q → (r r′ : Growth) → Same n F r r′ → Same n F (half n F near q ds g r) (half n F near′ q ds g r′)
+  half-table : (near near′ : Weights) (q : Place) (ds : List Bool) (g : Grid) → SameBelow near near′ → Ends q → (r r′ : Growth) → Same (UpTo n) r r′ → Same (UpTo n) (half n F near q ds g r) (half n F near′ q ds g r′)
   half-table near near′ q ds g s e r r′ h = rw (s (q .left) (q .right) (e .0) (e .1)) (go (strained near′ q) (known (F .program) ds) (search (weight g) n))
     where
-      go : (b : Bool) (k : Three) (o : Option (List ℕ)) → Same n F (cond b (strainedNode k o) r) (cond b (strainedNode k o) r′)
+      go : (b : Bool) (k : Three) (o : Option (List ℕ)) → Same (UpTo n) (cond b (strainedNode k o) r) (cond b (strainedNode k o) r′)
       go true fails o = refl
       go true passes o = refl
       go true open? o = refl
       go false k o = h
 
-  pub fast-table : (todo : List Place) (ds : List Bool) (g : Grid) (near near′ : Weights) → SameBelow near near′ → Every Ends todo → Same n F (fast n F todo ds g near) (fast n F todo ds g near′)
+  pub fast-table : (todo : List Place) (ds : List Bool) (g : Grid) (near near′ : Weights) → SameBelow near near′ → Every Ends todo → Same (UpTo n) (fast n F todo ds g near) (fast n F todo ds g near′)
   unfolding fast
   fast-table [] ds g near near′ s a = calm-table near near′ s (known (F .program) ds) _ _ (λ v hv. s 0 v (omega arith) hv)
   fast-table (p ∷ todo) ds g near near′ s a =
       calm-table near near′ s (known (F .program) ds) _ _
-      (join-same n F (sideOf n F p todo ds g near true) (sideOf n F p todo ds g near′ true) (sideOf n F p todo ds g near false) (sideOf n F p todo ds g near′ false)
+      (join-same (UpTo n) (sideOf n F p todo ds g near true) (sideOf n F p todo ds g near′ true) (sideOf n F p todo ds g near false) (sideOf n F p todo ds g near′ false)
       (side true (fast-table todo (ds ++ true ∷ []) (decide g p true))) (side false (fast-table todo (ds ++ false ∷ []) (decide g p false))))
     where
-      side : (d : Bool) → ((m m′ : Weights) → SameBelow m m′ → Every Ends todo → Same n F (fast n F todo (ds ++ d ∷ []) (decide g p d) m) (fast n F todo (ds ++ d ∷ []) (decide g p d) m′)) → Same n F (sideOf n F p todo ds g near d) (sideOf n F p todo ds g near′ d)
+      side : (d : Bool) → ((m m′ : Weights) → SameBelow m m′ → Every Ends todo → Same (UpTo n) (fast n F todo (ds ++ d ∷ []) (decide g p d) m) (fast n F todo (ds ++ d ∷ []) (decide g p d) m′)) → Same (UpTo n) (sideOf n F p todo ds g near d) (sideOf n F p todo ds g near′ d)
       side d f =
           let e = ends-taken p d (a .0) in
           half-table near near′ (taken p d) (ds ++ d ∷ []) (decide g p d) s e _ _ (f (after near (taken p d)) (after near′ (taken p d)) (after-table near near′ (taken p d) s e) (a .1))
 
   -- ---- what the code works out for a formula is what the writer's rule comes to
-  pub fast-formula : Fit (suc n) F → Every Nonempty (F .ranges) → Same n F (growTree n F) (fast (length (F .ranges)) F (places (F .program)) [] (start (suc n) (F .ranges)) (nearStart (F .ranges)))
-  fast-formula p e =
+  pub fast-formula : Fit (suc n) F → (near : Weights) → OfRanges (F .ranges) near → Same (Here (F .ranges)) (growTree n F) (fast (length (F .ranges)) F (places (F .program)) [] (start (suc n) (F .ranges)) near)
+  fast-formula p near o =
       let m = length (F .ranges) in
       let few : n < 25 = omega (arith, p .few) in
       let l : m ≤ n = omega (arith, p .some-vertex) in
-      rw (fast-among l few (places (F .program)) [] (start (suc n) (F .ranges)) (nearStart (F .ranges)) (bounds-start (suc n) (F .ranges) (p .ranges-small)) (p .places-small)) at (fast-tree n F p e)
+      rw (fast-among l few (places (F .program)) [] (start (suc n) (F .ranges)) near (bounds-start (suc n) (F .ranges) (p .ranges-small)) (p .places-small)) at (fast-tree n F p near o)

@@ -26,10 +26,11 @@ use Rattle.page_formulas.specs.Proper.{SmallRange, SmallPlace}
 use Rattle.page_questions.specs.Accepted.{Every}
 use Rattle.page_sheets.specs.Facts.{start, decide}
 use Rattle.page_sheets.specs.Grow.{join, Growth, shut, openAt, atNode, grow, growTree}
-use Rattle.page_sheets.proofs.Fit.{Fit, present-below, in-range-small}
+use Rattle.page_sheets.proofs.Fit.{Fit, present-below}
 use Rattle.page_sheets.proofs.Grows.{never-open}
 use Rattle.page_sheets.proofs.Holds.{InBounds, bounds-start, bounds-decide}
 use Rattle.page_sheets.proofs.Meets.{Meets, meets-start, meets-decide}
+use Rattle.page_sheets.proofs.Settles.{settle, settle-there, settle-sat}
 use Rattle.page_sheets.proofs.Sound.{snoc-lengths}
 
 abbrev Met : Formula → Grid → List Bool → Type 0
@@ -41,31 +42,7 @@ unsnoc y [] p todo (b ∷ ds) d l a = absurd (omega arith)
 unsnoc y (q ∷ done) p todo [] d l a = absurd (omega arith)
 unsnoc y (q ∷ done) p todo (b ∷ ds) d l a = let r = unsnoc y done p todo ds d (omega arith) (a .1) in ((a .0, r .0), r .1)
 
--- 0 at the numbers that the formula lacks
-abbrev filled : Ranges → Values → Values
-filled rs y v = cond (present rs v) (y v) (pos 0)
-
 module _ (n : ℕ) (F : Formula) where
-  filled-sat : (g : Grid) (y : Values) → InBounds (suc n) (F .ranges) g → Every SmallRange (F .ranges) → InRange (F .ranges) y → Meets (F .ranges) g y → Sat (weight g) (suc n) (filled (F .ranges) y)
-  unfolding Sat
-  filled-sat g y b a h m u v hu hv = go (present (F .ranges) u) (present (F .ranges) v) (λ t. t) (λ t. t) (λ t. t) (λ t. t)
-    where
-      w : ℤ
-      w = weight g u v
-
-      go : (p q : Bool) → (T p → T (present (F .ranges) u)) → (T (present (F .ranges) u) → T p) → (T q → T (present (F .ranges) v)) → (T (present (F .ranges) v) → T q) → cond q (y v) (pos 0) ≤ℤ (cond p (y u) (pos 0) +ℤ w)
-      go true true f f′ k k′ = m u v (f tt) (k tt)
-      go true false f f′ k k′ = omega (ints, b .no-way-in u v k′, in-range-small (F .ranges) y h a u (f tt), +law (y u) w)
-      go false true f f′ k k′ = omega (ints, b .no-way-out u v f′, in-range-small (F .ranges) y h a v (k tt), +law (pos 0) w)
-      go false false f f′ k k′ = omega (ints, b .no-way-out u v f′, +law (pos 0) w)
-
-  filled-at : (y : Values) (v : ℕ) → T (present (F .ranges) v) → filled (F .ranges) y v ≡ y v
-  filled-at y v t = go (present (F .ranges) v) t
-    where
-      go : (b : Bool) → T b → cond b (y v) (pos 0) ≡ y v
-      go true t = refl
-      go false t = absurd t
-
   -- x is the greatest of the values in range that agree with some decisions by which the formula is true
   pub record GreatestLeaf (x : Values) : Type 0 where
     pub decisions : List Bool
@@ -87,7 +64,7 @@ module _ (n : ℕ) (F : Formula) where
       record {
         decisions = ds;
         true-by = e;
-        most = λ y h k v t. rw (filled-at y v t) at (r .most (filled (F .ranges) y) (h .at-zero) (filled-sat g y b a h (m y h k)) v (omega (arith, present-below (F .ranges) v t)));
+        most = λ y h k v t. rw (settle-there (F .ranges) y v t) at (r .most (settle (F .ranges) y) (h .at-zero) (settle-sat (F .ranges) y n g b (h .at-zero) (m y h k)) v (omega (arith, present-below (F .ranges) v t)));
       }
 
   node-best : (ds : List Bool) (g : Grid) → length (F .ranges) < suc n → Every SmallRange (F .ranges) → InBounds (suc n) (F .ranges) g → Met F g ds → (k : Three) → known (F .program) ds ≡ k → (s : Option (List ℕ)) → search (weight g) n ≡ s → (r : Growth) → (k ≡ open? → Best r) → Best (atNode k s (dist (weight g) n) r)

@@ -28,6 +28,7 @@ use Rattle.page_sheets.proofs.Sound.{agrees-snoc}
 pub record InBounds (N : ℕ) (rs : Ranges) (g : Grid) : Type 0 where
   pub sized : Sized N g
   pub floor : (u v : ℕ) → dn (weight g u v) ≤ least-weight
+  pub ceiling : (u v : ℕ) → weight g u v ≤ℤ far
   pub no-way-out : (u v : ℕ) → ¬ T (present rs u) → far ≤ℤ weight g u v
   pub no-way-in : (u v : ℕ) → ¬ T (present rs v) → far ≤ℤ weight g u v
 
@@ -35,6 +36,7 @@ pub bounds-tighten : (N : ℕ) (rs : Ranges) (g : Grid) (u v : ℕ) (k : ℤ) �
 bounds-tighten N rs g u v k hu hv hk b = record {
   sized = tighten-sized N g u v k (b .sized);
   floor = λ x y. tighten-keeps (λ z. dn z ≤ least-weight) g u v k x y (b .floor x y) (λ d e. hk);
+  ceiling = λ x y. omega (ints, tighten-le g u v k x y, b .ceiling x y);
   no-way-out = λ x y f. tighten-keeps (λ z. far ≤ℤ z) g u v k x y (b .no-way-out x y f) (λ d e. absurd (f (rw d hu)));
   no-way-in = λ x y f. tighten-keeps (λ z. far ≤ℤ z) g u v k x y (b .no-way-in x y f) (λ d e. absurd (f (rw e hv)));
 }
@@ -43,6 +45,7 @@ bounds-blank : (N : ℕ) (rs : Ranges) → InBounds N rs (blank N)
 bounds-blank N rs = record {
   sized = blank-sized N;
   floor = λ u v. rw blank-far (omega arith);
+  ceiling = λ u v. rw blank-far (≤ℤ-refl far);
   no-way-out = λ u v f. rw blank-far (≤ℤ-refl far);
   no-way-in = λ u v f. rw blank-far (≤ℤ-refl far);
 }
@@ -92,11 +95,11 @@ module _ (N : ℕ) (rs : Ranges) (g : Grid) (b : InBounds N rs g) where
   negative-present (v ∷ p) l h = elim (present-or-misses v p v) [ inl a ↦ a | inr m ↦ absurd (omega (ints, missing-closed (weight g) (b .floor) v p (omega arith) m)) ]
 
 -- ---- each fact that went in holds of values that meet the grid
-sat-loosen : (N : ℕ) (g g′ : Grid) (x : Values) → ((a b : ℕ) → weight g′ a b ≤ℤ weight g a b) → Sat (weight g′) N x → Sat (weight g) N x
+pub sat-loosen : (N : ℕ) (g g′ : Grid) (x : Values) → ((a b : ℕ) → weight g′ a b ≤ℤ weight g a b) → Sat (weight g′) N x → Sat (weight g) N x
 unfolding Sat
 sat-loosen N g g′ x l s u v hu hv = omega (ints, l u v, s u v hu hv, +law (x u) (weight g u v), +law (x u) (weight g′ u v))
 
-pub confine-le : (g : Grid) (s : ℕ) (ts : Ranges) (a b : ℕ) → weight (confineAll g s ts) a b ≤ℤ weight g a b
+confine-le : (g : Grid) (s : ℕ) (ts : Ranges) (a b : ℕ) → weight (confineAll g s ts) a b ≤ℤ weight g a b
 unfolding confineAll
 confine-le g s [] a b = ≤ℤ-refl (weight g a b)
 confine-le g s (none ∷ ts) a b = confine-le g (suc s) ts a b

@@ -2,11 +2,12 @@ pub mod Fit
 pub mod Meets
 pub mod Sound
 pub mod Holds
+pub mod Settles
 pub mod Grows
 pub mod Greatest
 pub mod Findings
 pub mod HandsOn
-pub mod NearStart
+pub mod SameFacts
 pub mod Fasts
 pub mod Steps
 pub mod FastAmong

@@ -23,7 +23,7 @@ use Rattle.page_sheets.proofs.Fit.{in-range-small, from-true, from-fals
 abbrev pub Meets : Ranges → Grid → Values → Type 0
 Meets rs g ρ = (u v : ℕ) → T (present rs u) → T (present rs v) → ρ v ≤ℤ (ρ u +ℤ weight g u v)
 
-meets-tighten : (rs : Ranges) (g : Grid) (ρ : Values) (u v : ℕ) (k : ℤ) → Meets rs g ρ → ρ v ≤ℤ (ρ u +ℤ k) → Meets rs (tighten g u v k) ρ
+pub meets-tighten : (rs : Ranges) (g : Grid) (ρ : Values) (u v : ℕ) (k : ℤ) → Meets rs g ρ → ρ v ≤ℤ (ρ u +ℤ k) → Meets rs (tighten g u v k) ρ
 meets-tighten rs g ρ u v k m h a b ha hb = tighten-keeps (λ z. ρ b ≤ℤ (ρ a +ℤ z)) g u v k a b (m a b ha hb) (λ d e. rw (d, e) h)
 
 meets-blank : (N : ℕ) (rs : Ranges) (ρ : Values) → InRange rs ρ → Every SmallRange rs → Meets rs (blank N) ρ

@@ -1,35 +1,20 @@
 -- The writer's rule with the closure of the facts in the place of a search at each node: the search is made only where a cycle is known to be.
--- It comes to the same (`fast-tree`); the code follows this one.
-use Prim.Native.Nat.{ℕ, suc}
+-- It comes to the same (`fast-formula`); the code follows this one.
+use Prim.Native.Nat.{ℕ}
 use mathlib.Core.Bool.{Bool, true, false, cond}
 use mathlib.Core.Option.{Option, none, some}
 use mathlib.Core.List.{List, [], _∷_, _++_}
-use lib.IntN.{pos, _+ℤ_, negℤ}
+use lib.IntN.{pos, _+ℤ_}
 use lib.Signed.{ltZ}
-use Rattle.page_meaning.specs.Contents.{Range}
 use Rattle.page_walks.specs.Grid.{Grid, weight}
-use Rattle.page_walks.specs.Near.{Weights, relax, nearBlank}
+use Rattle.page_walks.specs.Near.{Weights, relax}
 use Rattle.page_walks.specs.Search.{search}
 use Rattle.page_formulas.specs.Formulas.{Formula}
 use Rattle.page_formulas.specs.Known.{Three, fails, passes, open?, known}
 use Rattle.page_formulas.specs.Program.{Values, Place}
-use Rattle.page_formulas.specs.Vertices.{Ranges}
 use Rattle.page_sheets.specs.Facts.{taken, decide}
 use Rattle.page_sheets.specs.Grow.{Growth, shut, openAt, join}
 use Rattle.page_sheets.specs.Tree.{falseLeaf, cycle}
-
--- as `confine`, on the closure
-abbrev pub nearConfine : Weights → ℕ → Option Range → Weights
-nearConfine near v none = near
-nearConfine near v (some r) = relax (relax near 0 v (r .hi)) v 0 (negℤ (r .lo))
-
-unfoldable pub nearConfineAll : Weights → ℕ → Ranges → Weights
-nearConfineAll near v [] = near
-nearConfineAll near v (r ∷ rs) = nearConfineAll (nearConfine near v r) (suc v) rs
-
--- the closure of the ranges' facts
-abbrev pub nearStart : Ranges → Weights
-nearStart rs = nearConfineAll nearBlank 1 rs
 
 -- does the fact a − b ≤ k close a negative cycle?
 abbrev pub strained : Weights → Place → Bool

@@ -1,21 +1,19 @@
--- Where the vertices above m have no edge, the search among 0 .. n and the search among 0 .. m find the same, and so do the greatest assignments.
-use mathlib.Core.Path.{_≡_, refl, ap, _∙_}
-use mathlib.Core.Bool.{Bool, true, false, not, cond}
+-- Where the vertices above m have no edge, the search among 0 .. n and the search among 0 .. m find the same.
+use mathlib.Core.Path.{_≡_, refl, ap}
 use mathlib.Core.Option.{Option, none, some}
 use mathlib.Core.List.{List, [], _∷_}
 use Prim.Native.Nat.{ℕ, suc, _≤_, _<_}
 use native.Mathlib.Omega.{arith}
 use native.Mathlib.Decide.{decLe}
 use lib.ListN.{length}
-use lib.Dec.{T, leb, leb→le, le→leb, nleb→lt}
-use lib.IntN.{ℤ, pos, _+ℤ_}
+use lib.IntN.{ℤ, pos}
 use lib.Signed.{_≤ℤ_, _<ℤ_}
 use Rattle.page_numbers.specs.Numbers.{dn}
-use Rattle.page_numbers.proofs.Bridge.{ints, +law}
-use Rattle.page_walks.specs.Walk.{Below, closed, Sat}
+use Rattle.page_numbers.proofs.Bridge.{ints}
+use Rattle.page_walks.specs.Walk.{Below, closed}
 use Rattle.page_walks.specs.Grid.{far}
 use Rattle.page_walks.specs.Sizes.{least-weight}
-use Rattle.page_walks.specs.Search.{search, Shortest, Answer, NoNeg, dist}
+use Rattle.page_walks.specs.Search.{search, Shortest, Answer, dist}
 use Rattle.page_walks.proofs.Walks.{sound}
 use Rattle.page_walks.proofs.Searches.{search-is, shortest-one, dist-greatest}
 use Rattle.page_walks.proofs.Grids.{Real, negative-real}
@@ -70,33 +68,3 @@ module _ (w : ℕ → ℕ → ℤ) (m : ℕ) (a : Alone w m) (floor : (u v : ℕ
         go none (some d) p q = let s = shortest-all d q in absurd (omega (ints, s .negative, p d (s .some-vertex) (s .short) (s .below)))
         go (some c) none p q = absurd (sound w (suc m) (dist w m) (dist-greatest w m q .meets) c (stays c (omega (arith, p .short)) (p .negative)) (p .negative))
         go none none p q = refl
-
--- x up to m, and 0 above
-abbrev upTo : ℕ → (ℕ → ℤ) → ℕ → ℤ
-upTo m x v = cond (leb v m) (x v) (pos 0)
-
-module _ (w : ℕ → ℕ → ℤ) (m : ℕ) (a : Alone w m) (roof : (u v : ℕ) → w u v ≤ℤ far) (n : ℕ) (le : m ≤ n) where
-  -- what meets the facts among 0 .. m meets all, with 0 at the others
-  sat-all : (x : ℕ → ℤ) → x 0 ≡ pos 0 → Sat w (suc m) x → Sat w (suc n) (upTo m x)
-  unfolding Sat
-  sat-all x z s u v hu hv = go (leb u m) (leb v m) (λ t. leb→le u m t) (λ t. nleb→lt u m t) (λ t. leb→le v m t) (λ t. nleb→lt v m t)
-    where
-      go : (b d : Bool) → (T b → u ≤ m) → (T (not b) → m < u) → (T d → v ≤ m) → (T (not d) → m < v) → cond d (x v) (pos 0) ≤ℤ (cond b (x u) (pos 0) +ℤ w u v)
-      go true true f f′ k k′ = s u v (omega (arith, f tt)) (omega (arith, k tt))
-      go true false f f′ k k′ = omega (ints, a .no-way-in u v (k′ tt), z, s u 0 (omega (arith, f tt)) (omega arith), roof u 0, +law (x u) (w u 0), +law (x u) (w u v))
-      go false true f f′ k k′ = omega (ints, a .no-way-out u v (f′ tt), z, s 0 v (omega arith) (omega (arith, k tt)), roof 0 v, +law (x 0) (w 0 v), +law (pos 0) (w u v))
-      go false false f f′ k k′ = omega (ints, a .no-way-out u v (f′ tt), +law (pos 0) (w u v))
-
-  at-few : (x : ℕ → ℤ) (v : ℕ) → v ≤ m → upTo m x v ≡ x v
-  at-few x v h = go (leb v m) (le→leb v m h)
-    where
-      go : (b : Bool) → T b → cond b (x v) (pos 0) ≡ x v
-      go true t = refl
-      go false t = absurd t
-
-  pub among-dist : NoNeg w (suc n) → NoNeg w (suc m) → (v : ℕ) → v ≤ m → dist w n v ≡ dist w m v
-  unfolding Sat
-  among-dist p q v h =
-      let all = dist-greatest w n p in
-      let few = dist-greatest w m q in
-      omega (ints, few .most (dist w n) (all .at-zero) (λ u v hu hv. all .meets u v (omega arith) (omega arith)) v (omega arith), all .most (upTo m (dist w m)) (at-few (dist w m) 0 (omega arith) ∙ few .at-zero) (sat-all (dist w m) (few .at-zero) (few .meets)) v (omega arith), at-few (dist w m) v h)

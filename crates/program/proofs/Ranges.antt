@@ -1,6 +1,6 @@
--- A compiled formula's ranges, as they are lent: the lists are the ranges, and those are small and have a value.
-use Prim.Native.Nat.{ℕ, zero, suc, _+_, _-_, _≤_, _<_}
-use mathlib.Core.Path.{_≡_, refl, sym, ap, ap₂, _∙_, subst}
+-- A compiled formula's ranges, as they are lent: they are small and have a value.
+use Prim.Native.Nat.{ℕ, zero, suc, _≤_, _<_}
+use mathlib.Core.Path.{_≡_, subst}
 use mathlib.Core.Bool.{Bool, true, false}
 use mathlib.Core.Option.{Option, none, some}
 use mathlib.Core.List.{List, [], _∷_}
@@ -13,10 +13,10 @@ use Rattle.page_meaning.specs.Contents.{Range}
 use Rattle.page_meaning.specs.Limits.{mostVertices}
 use Rattle.page_questions.specs.Accepted.{Every}
 use Rattle.page_formulas.specs.Formulas.{Formula}
-use Rattle.page_formulas.specs.Vertices.{Ranges, isSome}
+use Rattle.page_formulas.specs.Vertices.{Ranges}
 use Rattle.page_formulas.specs.Proper.{SmallRange, Nonempty, billion}
 use Rattle.program.specs.Lent.{Coded}
-use Rattle.program.specs.Compiled.{Compiled, Ranging, rangeAt, rangesFrom, Ranged}
+use Rattle.program.specs.Compiled.{Compiled, Ranging, Ranged}
 use Rattle.program.specs.declared.types.Formula as types
 use Rattle.program.proofs.Lends.{flagged, lent-of, spanned-of}
 
@@ -28,21 +28,6 @@ range-at (r ∷ rs) P a zero g e = subst P e (a .0)
 range-at (r ∷ rs) P a (suc k) g e = range-at rs P (a .1) k g e
 
 module _ (rs : Ranges) (count : ℕ) (flags : List Bool) (lo hi : List ℤ) (r : Ranging rs count flags lo hi) where
-  -- the lists, read back, are the ranges
-  ranges-from : (v : ℕ) (ts : Ranges) → ((k : ℕ) → getD ts k none ≡ getD rs (v + k) none) → v + length ts ≤ length rs → rangesFrom flags lo hi (suc v) (length ts) ≡ ts
-  unfolding rangesFrom
-  ranges-from v [] f h = refl
-  ranges-from v (t ∷ ts) f h = ap₂ _∷_ (one (getD flags (suc v) false) refl t (f 0 ∙ ap (λ m. getD rs m none) (omega arith))) (ranges-from (suc v) ts (λ k. f (suc k) ∙ ap (λ m. getD rs m none) (omega arith)) (omega arith))
-    where
-      one : (b : Bool) → getD flags (suc v) false ≡ b → (t : Option Range) → t ≡ getD rs v none → rangeAt flags lo hi (suc v) ≡ t
-      one true e none d = let p = flagged rs flags lo hi (r .spans) v e in let z : _≡_ {A = ℕ} 0 1 = cc in absurd (omega arith)
-      one true e (some g) d = rw e (ap some (ap₂ (λ x y. record { lo = x; hi = y }) (r .spans .lows v g (sym d)) (r .spans .highs v g (sym d))))
-      one false e none d = rw e
-      one false e (some g) d = let p : isSome (getD rs v none) ≡ false = sym (r .spans .shows .agree (suc v)) ∙ e in let z : _≡_ {A = ℕ} 0 1 = cc in absurd (omega arith)
-
-  pub ranges-are : rangesFrom flags lo hi 1 (count - 1) ≡ rs
-  ranges-are = let d : count - 1 ≡ length rs = omega (arith, r .count-is) in ap (rangesFrom flags lo hi 1) d ∙ ranges-from 0 rs (λ k. ap (λ m. getD rs m none) (omega arith)) (omega arith)
-
   module _ (small : Every SmallRange rs) where
     pub ranged : Every Nonempty rs → Ranged count flags lo hi
     ranged some-value = record {

@@ -1,9 +1,9 @@
 -- What a compiled formula means: its program, which vertices it has, and their ranges; whole, and part by part as it is lent.
-use Prim.Native.Nat.{ℕ, zero, suc, _≤_, _<_}
+use Prim.Native.Nat.{ℕ, suc, _≤_, _<_}
 use mathlib.Core.Path.{_≡_}
 use mathlib.Core.Bool.{Bool, true, false, cond}
 use mathlib.Core.Option.{Option, none, some}
-use mathlib.Core.List.{List, [], _∷_}
+use mathlib.Core.List.{List}
 use lib.ListN.{length, getD}
 use lib.IntN.{ℤ, pos}
 use lib.Signed.{_≤ℤ_}
@@ -15,7 +15,7 @@ use Rattle.page_formulas.specs.Vertices.{Ranges, present}
 use Rattle.page_formulas.specs.Formulas.{Formula}
 use Rattle.page_formulas.specs.Proper.{billion, Proper}
 use Rattle.program.specs.Built.{Means}
-use Rattle.program.specs.Lent.{Shows, Coded}
+use Rattle.program.specs.Lent.{Shows}
 use Rattle.program.specs.declared.types.Vertices.{Vertices}
 use Rattle.program.specs.declared.types.Formula as compiled
 
@@ -60,15 +60,6 @@ pub record Ranging (rs : Ranges) (count : ℕ) (flags : List Bool) (lo hi : List
   pub count-is : count ≡ suc (length rs)
   pub spans : Spanned rs flags lo hi
 
--- the range of vertex v, if it is there
-abbrev pub rangeAt : List Bool → List ℤ → List ℤ → ℕ → Option Range
-rangeAt flags lo hi v = cond (getD flags v false) (some (record { lo = getD lo v (pos 0); hi = getD hi v (pos 0) })) none
-
--- of n vertices from v on
-unfoldable pub rangesFrom : List Bool → List ℤ → List ℤ → ℕ → ℕ → Ranges
-rangesFrom flags lo hi v zero = []
-rangesFrom flags lo hi v (suc n) = rangeAt flags lo hi v ∷ rangesFrom flags lo hi (suc v) n
-
 -- so many vertices; a vertex that is there has a small range with a value in it
 pub record Ranged (count : ℕ) (flags : List Bool) (lo hi : List ℤ) : Type 0 where
   pub some-vertex : 0 < count
@@ -76,12 +67,3 @@ pub record Ranged (count : ℕ) (flags : List Bool) (lo hi : List ℤ) : Type 0 
   pub nonempty : (v : ℕ) → 0 < v → v < count → getD flags v false ≡ true → getD lo v (pos 0) ≤ℤ getD hi v (pos 0)
   pub small-lo : (v : ℕ) → 0 < v → v < count → getD flags v false ≡ true → (up (getD lo v (pos 0)) ≤ billion) × (dn (getD lo v (pos 0)) ≤ billion)
   pub small-hi : (v : ℕ) → 0 < v → v < count → getD flags v false ≡ true → (up (getD hi v (pos 0)) ≤ billion) × (dn (getD hi v (pos 0)) ≤ billion)
-
--- ---- all parts
-
--- it is some formula's, and that is proper
-pub record Plantable (kinds : List ℕ) (n : ℕ) (left right : List ℕ) (most : List ℤ) (few count : ℕ) (flags : List Bool) (lo hi : List ℤ) : Type 0 where
-  pub formula : Formula
-  pub coded : Coded formula kinds n left right most few
-  pub ranging : Ranging (formula .ranges) count flags lo hi
-  pub proper : Proper formula

@@ -1,5 +1,15 @@
 // The declared types: a formula as the product holds it. specs/Built says what the used fields mean.
+use question::limits::COLUMNS;
+use question::limits::COMPARISONS;
+use question::limits::TOKENS;
 use question::types::Setting;
+
+// How many vertices, places and instructions a formula has at most (specs: mostVertices, mostPlaces, mostInstructions).
+pub const VERTICES: usize = 1 + 2 * COLUMNS;
+
+pub const PLACES: usize = 12 * COMPARISONS + 6 * COLUMNS;
+
+pub const INSTRUCTIONS: usize = 6 * (TOKENS + 3 * COMPARISONS) + 13 * COLUMNS + 12;
 
 // The first `count` kinds are the program: 0 place, 1 and, 2 or, 3 not, 4 true, 5 false. The first `places` entries of the other
 // three arrays are its places in order: left − right ≤ most.

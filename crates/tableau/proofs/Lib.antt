@@ -1,6 +1,4 @@
 pub mod Tightens
-pub mod Settles
-pub mod Spreads
 pub mod Stacks
 pub mod Turns
 pub mod Looks

@@ -15,7 +15,9 @@ use Rattle.page_formulas.specs.Proper.{Proper}
 use Rattle.program.specs.Built.{mostInstructions}
 use Rattle.program.specs.Compiled.{Ranging, Ranged}
 use Rattle.program.proofs.Ranges.{ranged}
-use Rattle.tableau.specs.Begun.{spread}
+use Rattle.page_sheets.proofs.Settles.{settle, truth-settle}
+use Rattle.spreads.specs.Spread.{spread}
+use Rattle.spreads.proofs.Spreads.{begun-least, begun-far, sat-range, range-sat}
 use Rattle.tableau.specs.Closed.{Tight}
 use Rattle.page_formulas.specs.Postfix.{valueAt}
 use Rattle.tableau.specs.Nodes.{sizeAt, Tells}
@@ -23,8 +25,6 @@ use Rattle.tableau.specs.Goals.{goal, stackOf, total, held, Opens, Solve
 use Rattle.tableau.specs.declared.types.Tree.{Tree}
 use Rattle.tableau.proofs.Stacks.{stack-none}
 use Rattle.tableau.proofs.Splits.{opens-same}
-use Rattle.tableau.proofs.Settles.{settle, truth-settle}
-use Rattle.tableau.proofs.Spreads.{begun-tight, sat-range, range-sat}
 
 -- under given facts
 module _ (t : Tree) (p : Program) (tells : Tells t p) (near : Grid) where
@@ -43,7 +43,9 @@ module _ (F : Formula) (proper : Proper F) (count : ℕ) (flags : List Bool) (lo
   in-ranges = ranged (F .ranges) count flags lo hi ranging (proper .ranges-small) (proper .ranges-some)
 
   pub begun : (last : ℕ) → count ≡ suc last → Tight (suc last) near
-  begun last e = subst (λ m. Tight m near) e (begun-tight count flags lo hi in-ranges near near-is)
+  begun last e =
+      let l = begun-least count flags lo hi in-ranges near near-is in
+      subst (λ m. Tight m near) e (record { itself = l .itself; triangle = l .triangle; ceiling = begun-far count flags lo hi in-ranges near near-is })
 
   pub ranges-open : (last : ℕ) → count ≡ suc last → (r : Bool) (l : List ℤ) → Opens r l (TrueUnder (F .program) last near) → Opens r l (TrueAt F)
   ranges-open last e true l s = (sat-range count flags lo hi in-ranges near near-is (F .ranges) ranging (held l) (s .at-zero) (subst (λ m. Sat (weight near) m (held l)) (sym e) (s .sat)), s .true-is)

@@ -1,9 +1,8 @@
 -- Laws of the closure by itself: its entries are small, and one fact more keeps it.
 use Prim.Native.Nat.{ℕ, suc, _+_, _≤_, _<_}
 use mathlib.Core.Path.{_≡_, sym, ap, _∙_, subst}
-use mathlib.Core.Logic.{_⊎_, inl, inr}
 use mathlib.Core.Bool.{Bool, true, false}
-use mathlib.Core.List.{List, []}
+use mathlib.Core.List.{List}
 use native.Mathlib.Omega.{arith}
 use lib.ListN.{getD}
 use lib.IntN.{ℤ, pos, negsuc, _+ℤ_, negℤ}
@@ -12,61 +11,51 @@ use mir.Syntax.{w64}
 use mir.Val.{SFits, toZ, ofZ}
 use mir.Facts.{toZ-ofZ}
 use Rattle.page_numbers.specs.Numbers.{minZ}
-use Rattle.page_numbers.proofs.Bridge.{min-spec, ints, eq-out, +law, neg-up, neg-dn}
+use Rattle.page_numbers.proofs.Bridge.{ints, eq-out, +law, neg-up, neg-dn}
 use Rattle.page_numbers.proofs.Machine.{machine, lt-true, lt-false, le-true, le-false, true-le, false-le}
-use Rattle.page_walks.specs.Grid.{Grid, row, weight, tighten, far, farN}
+use Rattle.page_meaning.specs.Limits.{mostVertices}
+use Rattle.page_walks.specs.Grid.{Grid, weight, farN}
 use Rattle.page_walks.specs.Sizes.{tabled, Sized, filled, AllWithin}
-use Rattle.page_walks.specs.Near.{Weights, relax, Closure}
+use Rattle.page_walks.specs.Near.{relax, Least}
 use Rattle.page_walks.specs.Walk.{Sat}
-use Rattle.page_walks.proofs.Grids.{tighten-le}
-use Rattle.page_walks.proofs.Nears.{closure-same, relax-closure, tightened, sat-tighten, sat-reached, near-small}
+use Rattle.page_walks.proofs.Nears.{relax-less, relax-least, relaxed-old, relaxed-fact, relaxed-both, near-small}
 use Rattle.page_walks.proofs.Rows.{tabled-sized, tabled-at}
 use Rattle.page_formulas.specs.Program.{Values, Place, test}
 use Rattle.page_sheets.specs.Facts.{taken}
 use Rattle.grid.specs.Edges.{Fact}
 use Rattle.tableau.specs.Closed.{Tight, Closer, Enters, placeOf, Placed}
 
-least : (a b : ℤ) → a ≤ℤ b → minZ a b ≡ a
-least a b h = go (min-spec a b .2)
-  where
-    go : (minZ a b ≡ a) ⊎ (minZ a b ≡ b) → minZ a b ≡ a
-    go (inl e) = e
-    go (inr e) = omega (ints, e, min-spec a b .0)
-
 module _ (n : ℕ) (near : Grid) (t : Tight n near) where
-  -- it is the closure of any weights that are the same between the vertices
-  tight-closure : (w : Weights) → ((u v : ℕ) → u < n → v < n → (weight near u v ≤ℤ w u v) × (w u v ≤ℤ weight near u v)) → Closure n w (weight near)
-  tight-closure w e = record { itself = t .itself; edge = λ u v hu hv. e u v hu hv .0; triangle = t .triangle; reached = λ u v hu hv. inr ([], tt, e u v hu hv .1) }
+  pub tight-least : Least n (weight near)
+  tight-least = record { itself = t .itself; triangle = t .triangle }
 
   pub tight-within : AllWithin farN n near
-  tight-within = record {
-    entry = λ u v hu hv.
-        let w : Weights = λ a b. minZ (weight near a b) far in
-        let b = near-small n w (weight near) (λ a b. min-spec (weight near a b) far .1) (tight-closure w (λ a b ha hb. (omega (ints, least (weight near a b) far (t .ceiling a b ha hb)), min-spec (weight near a b) far .0))) u v hu hv in
-        record { high = b .0; low = b .1 };
-  }
+  tight-within = record { entry = λ u v hu hv. let b = near-small n (weight near) tight-least (t .ceiling) u v hu hv in record { high = b .0; low = b .1 } }
 
   -- one fact more
-  module _ (few : n ≤ 17) (table : Sized 17 near) (from to : ℕ) (k : ℤ) (hf : from < n) (ht : to < n) where
+  module _ (few : n ≤ mostVertices) (table : Sized mostVertices near) (from to : ℕ) (k : ℤ) (hf : from < n) (ht : to < n) where
     -- the entries between the vertices are those of the new closure
-    closer-relaxed : (r : Grid) → Sized 17 r → ((u v : ℕ) → u < n → v < n → weight r u v ≡ relax (weight near) from to k u v) → pos 0 ≤ℤ (weight near to from +ℤ k) → Closer n near from to k r
+    closer-relaxed : (r : Grid) → Sized mostVertices r → ((u v : ℕ) → u < n → v < n → weight r u v ≡ relax (weight near) from to k u v) → pos 0 ≤ℤ (weight near to from +ℤ k) → Closer n near from to k r
     unfolding Sat
     closer-relaxed r sized e h =
-        let g = tighten near from to k in let m = tightened 17 near from to k table (omega arith) (omega arith) in
-        let c : Closure n (weight g) (weight r) = closure-same n (weight g) (relax (weight near) from to k) (weight r) e (relax-closure n (weight near) (weight near) (tight-closure (weight near) (λ u v hu hv. (omega ints, omega ints))) from to k hf ht (weight g) m h) in
-        let less : (u v : ℕ) → u < n → v < n → weight r u v ≤ℤ weight near u v = λ u v hu hv. omega (ints, c .edge u v hu hv, tighten-le near from to k u v) in
+        let l = relax-least n (weight near) tight-least from to k hf ht h in
+        let back : (x : Values) → Sat (weight r) n x → Sat (relax (weight near) from to k) n x = λ x s u v hu hv. rw (← e u v hu hv) (s u v hu hv) in
         record {
           sized = sized;
-          tight = record { itself = c .itself; triangle = c .triangle; ceiling = λ u v hu hv. omega (ints, less u v hu hv, t .ceiling u v hu hv) };
-          old = λ x s u v hu hv. omega (ints, s u v hu hv, less u v hu hv, +law (x u) (weight r u v), +law (x u) (weight near u v));
-          fact = λ x s. omega (ints, s from to hf ht, c .edge from to hf ht, m .new, +law (x from) (weight r from to), +law (x from) k);
-          both = λ x s f u v hu hv. sat-reached n (weight g) x (sat-tighten n near x from to k s f) u v (weight r u v) hu hv (c .reached u v hu hv);
+          tight = record {
+            itself = λ u hu. e u u hu hu ∙ l .itself u hu;
+            triangle = λ u v x hu hv hx. rw (e u x hu hx, e u v hu hv, e v x hv hx) (l .triangle u v x hu hv hx);
+            ceiling = λ u v hu hv. rw (e u v hu hv) (omega (ints, relax-less n (weight near) tight-least from to k hf ht u v, t .ceiling u v hu hv));
+          };
+          old = λ x s. relaxed-old n (weight near) tight-least from to k hf ht x (back x s);
+          fact = λ x s. relaxed-fact n (weight near) tight-least from to k hf ht x (back x s);
+          both = λ x s f u v hu hv. rw (e u v hu hv) (relaxed-both n (weight near) tight-least from to k hf ht x s f u v hu hv);
         }
 
     pub closer-tabled : (r : Grid) → r ≡ tabled (relax (weight near) from to k) n near → pos 0 ≤ℤ (weight near to from +ℤ k) → Closer n near from to k r
     closer-tabled r e h =
         let f = relax (weight near) from to k in
-        closer-relaxed r (rw e (tabled-sized f 17 n near few table)) (λ u v hu hv. rw e (tabled-at f 17 n near few table u v hu hv)) h
+        closer-relaxed r (rw e (tabled-sized f mostVertices n near few table)) (λ u v hu hv. rw e (tabled-at f mostVertices n near few table u v hu hv)) h
 
 -- ---- places
 

@@ -7,6 +7,7 @@ use lib.Signed.{_≤ℤ_, _<ℤ_}
 use Rattle.page_meaning.specs.Limits.{mostVertices}
 use Rattle.page_walks.specs.Grid.{Grid, weight, far}
 use Rattle.page_walks.specs.Sizes.{Sized}
+use Rattle.page_walks.specs.Near.{Triangle}
 use Rattle.page_walks.specs.Walk.{Sat}
 use Rattle.page_formulas.specs.Program.{Values, Place}
 use Rattle.page_sheets.specs.Facts.{taken}
@@ -15,7 +16,7 @@ use Rattle.grid.specs.Edges.{Fact}
 -- least sums between the vertices below n: 0 from each to itself, no way round is less, none is above a missing edge's weight
 pub record Tight (n : ℕ) (near : Grid) : Type 0 where
   pub itself : (u : ℕ) → u < n → weight near u u ≡ pos 0
-  pub triangle : (u v x : ℕ) → u < n → v < n → x < n → weight near u x ≤ℤ (weight near u v +ℤ weight near v x)
+  pub triangle : Triangle n (weight near)
   pub ceiling : (u v : ℕ) → u < n → v < n → weight near u v ≤ℤ far
 
 -- r is near with one fact more: the values that meet r are those that meet near and the fact

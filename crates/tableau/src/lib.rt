@@ -1,5 +1,4 @@
 // The verdict alone: whether a formula is true at some values in range, by the formula's own structure.
-mod beginning;
 mod demanding;
 mod goals;
 pub mod judging;

@@ -1,5 +1,4 @@
 // Whether a formula is true at some values: in range, or such that meet given facts.
-use crate::beginning::begin;
 use crate::solving::solve;
 use crate::treeing::tree;
 use crate::types::INSTRUCTIONS;
@@ -7,6 +6,7 @@ use crate::types::Opened;
 use crate::types::Tree;
 use crate::types::VERTICES;
 use program::types::Formula;
+use spreads::begin;
 ghost use Prim.Native.Nat.{suc};
 ghost use Rattle.page_formulas.specs.Program.{Program};
 ghost use Rattle.page_formulas.specs.Formulas as written;

@@ -25,7 +25,7 @@ use Rattle.room.specs.declared.Spot.{Spot}
 use Rattle.room.proofs.Puts.{puts-append, puts-over}
 use Rattle.tableau.specs.Goals.{held, Opens, TrueAt}
 use Rattle.tableau.proofs.Judges.{never}
-use Rattle.writer_trees.specs.Growing.{Grows}
+use Rattle.writer_trees.specs.Trees.{Grows}
 use Rattle.writer.specs.Finding.{Finds}
 use Rattle.writer.specs.declared.finding.Found.{Found}
 

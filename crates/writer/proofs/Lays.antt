@@ -1,11 +1,11 @@
 -- A sheet laid from the start of the room: what stands there in the end, and that an open formula can be shown.
 use Prim.Native.Nat.{ℕ, _≤_, _<_}
-use mathlib.Core.Path.{_≡_, refl, sym, ap, subst, _∙_}
+use mathlib.Core.Path.{_≡_, refl, sym, ap, _∙_}
 use mathlib.Core.Bool.{Bool, true, false, cond, true≢false}
 use mathlib.Core.List.{List, [], _∷_, _++_}
 use native.Mathlib.Omega.{arith}
 use native.Mathlib.Decide.{decLe}
-use lib.Dec.{eqb}
+use lib.Dec.{T, eqb}
 use lib.ListN.{length, getD, length-map}
 use Rattle.page_meaning.specs.Contents.{Table, Change, insert, delete, modify, Question}
 use Rattle.page_meaning.specs.Contents as M
@@ -15,12 +15,13 @@ use Rattle.page_questions.specs.Accepted.{Accepted, ChangeAccepted}
 use Rattle.page_formulas.specs.Formulas.{Formula, irrelevance, computability, formulas, noFormula}
 use Rattle.page_formulas.specs.Program.{Values}
 use Rattle.page_formulas.specs.Proper.{Proper}
+use Rattle.page_formulas.specs.Vertices.{present}
 use Rattle.page_formulas.proofs.Proper.{formulas-proper}
 use Rattle.program.specs.Compiled.{Compiled}
 use Rattle.program.specs.declared.types.Formula as compiled
 use Rattle.formula.specs.Able.{formulaAt}
 use Rattle.page_sheets.specs.Grow.{openAt, growTree}
-use Rattle.page_sheets.specs.Rows.{fields, noBytes}
+use Rattle.page_sheets.specs.Rows.{noBytes}
 use Rattle.page_sheets.specs.Sheet.{lastVertex, header, sayYes, sayNo, sheetFor, verdictFor, findingOf, sheetOf}
 use Rattle.page_sheets.specs.Tree.{Tree}
 use Rattle.page_sheets.specs.Trees.{Finding, allShut, firstOpen, bytesAll}
@@ -31,9 +32,9 @@ use Rattle.outcome.specs.declared.Verdict.{Verdict}
 use Rattle.room.specs.Room.{filling, puts}
 use Rattle.room.specs.declared.Spot.{Spot}
 use Rattle.room.proofs.Puts.{Stand, puts-append, puts-length, puts-fit, puts-past}
-use Rattle.writer_rows.specs.Showing.{Alike}
-use Rattle.writer_rows.proofs.ShownFormulas.{fields-span}
-use Rattle.writer_trees.specs.Descending.{FineOpen, Leaf}
+use Rattle.writer_rows.specs.Rows.{Rowed, Alike}
+use Rattle.writer_rows.proofs.ShownFormulas.{rows-there}
+use Rattle.writer_trees.specs.Leaves.{FineOpen, Leaf}
 use Rattle.writer.specs.Finding.{Finds}
 use Rattle.writer.specs.Laying.{atStart, AllShut, OpenFirst, StandsIf, Lays}
 use Rattle.writer.specs.declared.finding.Found.{Found}
@@ -86,19 +87,17 @@ module _ (q : Question) (ok : Accepted q) (a : ℕ) where
 
     -- ---- a no sheet: its header, and the rows of the leaf
     pub sheet-no : (f : compiled.Formula) → Compiled f (formulaAt (formulas q a) i) → (values : M.Values)
-        → ((F : Formula) (x : Values) → Compiled f F → Proper F → growTree lastVertex F ≡ openAt x → Leaf (length (F .ranges)) x values)
+        → ((F : Formula) (x : Values) → Compiled f F → Proper F → growTree lastVertex F ≡ openAt x → Leaf (λ v. T (present (F .ranges) v)) x values)
         → (old mid new : List ℕ) (s₁ s : Spot) → filling mid s₁ ≡ puts (filling old atStart) (header a sayNo)
-        → ((F : Formula) (x : Values) → F .pairs ≡ f .pairs → Alike (fields q F) values x → filling new s ≡ puts (filling mid s₁) (noBytes q i F x))
+        → ((F : Formula) (x : Values) → F .pairs ≡ f .pairs → Rowed q F → Alike (F .ranges) values x → filling new s ≡ puts (filling mid s₁) (noBytes q i F x))
         → filling new s ≡ puts (filling old atStart) (sheetOf q a)
     unfolding sheetOf fine-open
     sheet-no f is values leaf old mid new s₁ s h w =
         let F = formulaAt (formulas q a) i in
         let x = o .values in
         let fine = fine-open f is in
-        let span : length (F .ranges) ≡ fields q F = fields-span q a i noFormula number-there in
-        let alike : Alike (fields q F) values x = subst (λ n. Alike n values x) span (leaf F x is (fine .proper) (fine .opens)) in
         let e : sheetFor q a (findingOf q a) ≡ header a sayNo ++ noBytes q i F x = ap (sheetFor q a) (o .finding) ∙ ap (λ G. header a sayNo ++ noBytes q i G x) (sym (there .1)) in
-        w F x (sym (is .pairs)) alike ∙ ap (λ g. puts g (noBytes q i F x)) h ∙ sym (puts-append (filling old atStart) (header a sayNo) (noBytes q i F x)) ∙ ap (puts (filling old atStart)) (sym e)
+        w F x (sym (is .pairs)) (rows-there q a i noFormula number-there) (leaf F x is (fine .proper) (fine .opens)) ∙ ap (λ g. puts g (noBytes q i F x)) h ∙ sym (puts-append (filling old atStart) (header a sayNo) (noBytes q i F x)) ∙ ap (puts (filling old atStart)) (sym e)
 
   -- ---- a yes sheet: its header, and every tree
   pub sheet-yes : AllShut q a → (old mid new : List ℕ) (s₁ s : Spot) → filling mid s₁ ≡ puts (filling old atStart) (header a sayYes)

@@ -1,71 +1,64 @@
--- Every formula of a question that was read can be shown: its row is there where the question inserts, and its vertices are its rows' fields.
-use Prim.Native.Nat.{ℕ, zero, suc, _+_, _<_}
-use mathlib.Core.Path.{_≡_, refl, ap₂, _∙_}
+-- Every formula of a question that was read can be shown: its row is there where the question inserts, and it has its rows' vertices.
+use Prim.Native.Nat.{ℕ, zero, suc, _<_}
+use mathlib.Core.Path.{_≡_, refl, sym}
 use mathlib.Core.Logic.{inl, inr}
-use mathlib.Core.Bool.{Bool, true, false, cond}
+use mathlib.Core.Bool.{Bool, true, false, cond, true≢false}
 use mathlib.Core.List.{List, [], _∷_}
 use native.Mathlib.Omega.{arith}
 use lib.Dec.{eqb}
-use lib.ListN.{length, getD, length-map, length-append}
-use Rattle.page_meaning.specs.Contents.{Values, _∈_, Table, Change, insert, delete, modify, Question, columns}
+use lib.ListN.{length, getD, length-map}
+use Rattle.page_meaning.specs.Contents.{Values, _∈_, Table, Change, insert, delete, modify, Question}
 use Rattle.page_meaning.specs.Claims.{unlessAlone}
 use Rattle.page_meaning.specs.WellFormed.{WellFormed, ChangeOk}
 use Rattle.page_meaning.proofs.Moving.{fits-length}
 use Rattle.page_questions.specs.Accepted.{Every}
 use Rattle.question.specs.Held.{questionOf}
 use Rattle.question.specs.declared.types.Question as D
-use Rattle.page_formulas.specs.Formulas.{Formula, firstRanges, bothRanges, hiddenRanges, irrelevance, computability, formulas}
+use Rattle.page_formulas.specs.Formulas.{Formula, oneRow, twoRows, irrelevance, computability, formulas}
+use Rattle.page_formulas.specs.Program.{Program}
 use Rattle.sights.specs.Seen.{Whole}
-use Rattle.page_formulas.proofs.Present.{hidden-length}
-use Rattle.page_sheets.specs.Rows.{fields, Wide}
-use Rattle.writer_rows.specs.Showing.{Showable}
+use Rattle.page_formulas.proofs.Present.{first-in-one, first-in-both, second-in-both}
+use Rattle.page_sheets.specs.Rows.{Wide}
+use Rattle.page_sheets.proofs.Findings.{all-at}
+use Rattle.writer_rows.specs.Rows.{Showable, Rowed}
 
--- ---- a vertex a field
+-- ---- the rows' vertices
 
 module _ (q : Question) where
-  abbrev Spans : Formula → Type 0
-  Spans F = length (F .ranges) ≡ fields q F
+  one : (p : Program) → Rowed q (oneRow q p)
+  one p = record { firsts = λ c h. first-in-one q c h .is; seconds = λ e. absurd (true≢false (sym e)) }
 
-  one : length (firstRanges (columns q)) ≡ length (columns q)
-  one = length-map (columns q) _
+  two : (p : Program) → Rowed q (twoRows q p)
+  two p = record { firsts = λ c h. first-in-both q c h .is; seconds = λ e c h. second-in-both q c h .is }
 
-  two : length (bothRanges q) ≡ length (columns q) + length (columns q)
-  two = length-append (firstRanges (columns q)) (hiddenRanges (q .visible) 0 (columns q)) ∙ ap₂ _+_ one (hidden-length (q .visible) 0 (columns q))
-
-  each : (new : List Values) → Every Spans (irrelevance q (insert new))
+  each : (new : List Values) → Every (Rowed q) (irrelevance q (insert new))
   each [] = tt
-  each (n ∷ new) = (one, each new)
+  each (n ∷ new) = (one _, each new)
 
-  unless : (ts us : List Table) (Fs : List Formula) → Every Spans Fs → Every Spans (unlessAlone ts us Fs)
+  unless : (ts us : List Table) (Fs : List Formula) → Every (Rowed q) Fs → Every (Rowed q) (unlessAlone ts us Fs)
   unless [] [] Fs h = tt
   unless [] (u ∷ us) Fs h = h
   unless (t ∷ ts) us Fs h = h
 
-  asked-one : (ch : Change) → Every Spans (irrelevance q ch)
+  asked-one : (ch : Change) → Every (Rowed q) (irrelevance q ch)
   asked-one (insert new) = each new
-  asked-one (delete d) = (one, tt)
-  asked-one (modify d ms) = (one, (one, (one, tt)))
+  asked-one (delete d) = (one _, tt)
+  asked-one (modify d ms) = (one _, (one _, (one _, tt)))
 
-  asked-two : (ch : Change) → Every Spans (computability q ch)
+  asked-two : (ch : Change) → Every (Rowed q) (computability q ch)
   asked-two (insert new) = unless (q .front) (q .back) (irrelevance q (insert new)) (each new)
-  asked-two (delete d) = (two, tt)
-  asked-two (modify d ms) = (one, (two, (two, (two, tt))))
+  asked-two (delete d) = (two _, tt)
+  asked-two (modify d ms) = (one _, (two _, (two _, (two _, tt))))
 
-  all-span : (asked : ℕ) → Every Spans (formulas q asked)
-  all-span asked = go (eqb asked 1)
+  all-rowed : (asked : ℕ) → Every (Rowed q) (formulas q asked)
+  all-rowed asked = go (eqb asked 1)
     where
-      go : (b : Bool) → Every Spans (cond b (irrelevance q (q .change)) (computability q (q .change)))
+      go : (b : Bool) → Every (Rowed q) (cond b (irrelevance q (q .change)) (computability q (q .change)))
       go true = asked-one (q .change)
       go false = asked-two (q .change)
 
-  -- the last vertex of a formula is its last field
-  pub fields-span : (asked i : ℕ) (F : Formula) → i < length (formulas q asked) → length (getD (formulas q asked) i F .ranges) ≡ fields q (getD (formulas q asked) i F)
-  fields-span asked i F h = go (formulas q asked) i h (all-span asked)
-    where
-      go : (Fs : List Formula) (i : ℕ) → i < length Fs → Every Spans Fs → Spans (getD Fs i F)
-      go [] i h e = absurd (omega arith)
-      go (G ∷ Fs) zero h e = e .0
-      go (G ∷ Fs) (suc i) h e = go Fs i (omega arith) (e .1)
+  pub rows-there : (asked i : ℕ) (F : Formula) → i < length (formulas q asked) → Rowed q (getD (formulas q asked) i F)
+  rows-there asked i F h = all-at (Rowed q) (formulas q asked) (all-rowed asked) i F h
 
   -- ---- an inserted row's values
 

@@ -12,17 +12,18 @@ use mir.Syntax.{w32}
 use mir.Val.{ofZ}
 use Rattle.page_numbers.specs.Bytes.{bytes4}
 use Rattle.page_meaning.specs.Contents.{Values, look, columnsOf, Change, insert, delete, modify, Question, first}
+use Rattle.page_meaning.specs.Limits.{mostVertices}
 use Rattle.question.specs.Held.{questionOf}
 use Rattle.question.specs.declared.types.Question as D
 use Rattle.page_formulas.specs.Formulas.{Formula, among, secondSight, rowOf1, rowOf2}
 use Rattle.page_formulas.specs.Program as P
 use Rattle.sights.specs.Seen.{rowSight}
 use Rattle.sights.proofs.Shapes.{columns-length}
-use Rattle.page_sheets.specs.Rows.{width, fields, putRow, firstRow, secondRow, bytesOfRow, fixed, Wide, orElse}
+use Rattle.page_sheets.specs.Rows.{width, putRow, firstRow, secondRow, bytesOfRow, fixed, Wide, orElse}
 use Rattle.page_sheets.proofs.Columns.{first-value, second-value}
 use Rattle.page_sheets.proofs.Values.{tabulate-length, tabulate-same}
 use Rattle.room.specs.Room.{Filling, puts}
-use Rattle.writer_rows.specs.Showing.{rowFor, rowsFor, Showable, Alike}
+use Rattle.writer_rows.specs.Rows.{rowFor, rowsFor, Showable, Rowed, Alike}
 use Rattle.room.proofs.Puts.{puts-append}
 
 -- ---- a row's columns
@@ -31,12 +32,12 @@ module _ (q : D.Question) (i : ℕ) (s : Showable q i) (x : P.Values) (c : ℕ) 
   inside : c < width (questionOf q)
   inside = omega (arith, columns-length q (s .whole))
 
-  -- the vertex is one of the 17
-  pub vertex-few : (second : Bool) → rowSight (questionOf q) second c .vertex < 17
+  -- the vertex is one of the few
+  pub vertex-few : (second : Bool) → rowSight (questionOf q) second c .vertex < mostVertices
   vertex-few false = omega (arith, s .whole .held .shape .fewColumns)
   vertex-few true = go (among (questionOf q .visible) c)
     where
-      go : (b : Bool) → cond b (suc c) (suc (width (questionOf q) + c)) < 17
+      go : (b : Bool) → cond b (suc c) (suc (width (questionOf q) + c)) < mostVertices
       go true = omega (arith, s .whole .held .shape .fewColumns)
       go false = omega (arith, s .whole .held .shape .fewColumns, columns-length q (s .whole))
 
@@ -98,16 +99,14 @@ module _ (f : Filling) (q : Question) (i : ℕ) (x : P.Values) (pairs : Bool) wh
 
 -- ---- rows of values that agree
 
-pub rows-alike : (q : Question) (i : ℕ) (F : Formula) (values : Values) (x : P.Values) (pairs : Bool) → F .pairs ≡ pairs → Alike (fields q F) values x → rowsFor q i pairs (look values) ≡ firstRow q i x ++ secondRow q F x
-rows-alike q i F values x pairs e a = rw (← e) (go (F .pairs) a)
+pub rows-alike : (q : Question) (i : ℕ) (F : Formula) (values : Values) (x : P.Values) (pairs : Bool) → F .pairs ≡ pairs → Rowed q F → Alike (F .ranges) values x → rowsFor q i pairs (look values) ≡ firstRow q i x ++ secondRow q F x
+rows-alike q i F values x pairs e w a = rw (← e) (go (F .pairs) refl)
   where
-    go : (b : Bool) → Alike (cond b (width q + width q) (width q)) values x → rowsFor q i b (look values) ≡ firstRow q i x ++ cond b (rowOf2 q x) []
-    go false a = ap (λ u. putRow q (q .change) i u ++ []) (tabulate-same (width q) (λ j. look values (suc j)) (λ j. x (suc j)) (λ j h. a (suc j) (omega arith)))
-    go true a =
-        ap₂ (λ u v. putRow q (q .change) i u ++ v)
-        (tabulate-same (width q) (λ j. look values (suc j)) (λ j. x (suc j)) (λ j h. a (suc j) (omega arith)))
-        (tabulate-same (width q) (λ j. look values (secondSight q j .vertex)) (λ j. x (secondSight q j .vertex)) (λ j h. a (secondSight q j .vertex) (few j h (among (q .visible) j))))
-      where
-        few : (j : ℕ) → j < width q → (b : Bool) → cond b (suc j) (suc (width q + j)) < suc (width q + width q)
-        few j h true = omega arith
-        few j h false = omega arith
+    firsts : rowOf1 q (look values) ≡ rowOf1 q x
+    firsts = tabulate-same (width q) (λ j. look values (suc j)) (λ j. x (suc j)) (λ j h. a (suc j) (w .firsts j h))
+
+    go : (b : Bool) → F .pairs ≡ b → rowsFor q i b (look values) ≡ firstRow q i x ++ cond b (rowOf2 q x) []
+    go false d = ap (λ u. putRow q (q .change) i u ++ []) firsts
+    go true d =
+        ap₂ (λ u v. putRow q (q .change) i u ++ v) firsts
+        (tabulate-same (width q) (λ j. look values (secondSight q j .vertex)) (λ j. x (secondSight q j .vertex)) (λ j h. a (secondSight q j .vertex) (w .seconds d j h)))

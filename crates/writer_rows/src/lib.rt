@@ -1,2 +1,2 @@
 // The rows of a no sheet.
-pub mod showing;
+pub mod rows;

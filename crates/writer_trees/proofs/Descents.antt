@@ -26,11 +26,11 @@ use Rattle.program.proofs.Lends.{lent-most, lent-place}
 use Rattle.page_sheets.specs.Facts.{taken, decide}
 use Rattle.page_sheets.specs.Fast.{calmNode, fast, after}
 use Rattle.page_sheets.specs.Grow.{Growth, shut, openAt}
-use Rattle.page_sheets.proofs.Fasts.{Same, same-trans, same-open}
+use Rattle.page_sheets.proofs.Fasts.{UpTo, Same, same-trans, same-open}
 use Rattle.page_sheets.proofs.FastAmong.{SameBelow, fast-table}
 use Rattle.page_sheets.proofs.Steps.{fast-end}
 use Rattle.page_sheets.proofs.Descends.{Down, TrueIn, down-next, down-table, true-table, table-true, leaf-known, leaf-false, TrueShut, down-true, down-false}
-use Rattle.writer_trees.specs.Growing.{decisions, Placing, fastAt}
+use Rattle.writer_trees.specs.Trees.{decisions, Placing, fastAt}
 use Rattle.writer_trees.proofs.Halves.{known-lent, all-ends, closer-same}
 
 module _ (last : ℕ) (F : Formula) where
@@ -39,10 +39,10 @@ module _ (last : ℕ) (F : Formula) where
     pub done : List Place
     pub facts : Grid
     pub down : Down last F done (drop decided (places (F .program))) (decisions truths decided) (weight near)
-    pub leads : Same last F (openAt x) (fast last F (drop decided (places (F .program))) (decisions truths decided) facts (weight near))
+    pub leads : Same (UpTo last) (openAt x) (fast last F (drop decided (places (F .program))) (decisions truths decided) facts (weight near))
 
   module _ (kinds left right : List ℕ) (most : List ℤ) (lent : Lent (F .program) kinds left right most) where
-    pub leading-start : (near : Grid) → Placing last left right most → Least (suc last) (weight near) → (truths : List ℕ) (facts : Grid) (x : Values) → Same last F (openAt x) (fastAt last F 0 truths facts near) → Leading x 0 truths near
+    pub leading-start : (near : Grid) → Placing last left right most → Least (suc last) (weight near) → (truths : List ℕ) (facts : Grid) (x : Values) → Same (UpTo last) (openAt x) (fastAt last F 0 truths facts near) → Leading x 0 truths near
     leading-start near placing least truths facts x e = record {
       done = [];
       facts = facts;
@@ -59,7 +59,7 @@ module _ (last : ℕ) (F : Formula) where
       ds = decisions truths decided
 
       -- the row of vertex 0 is the leaf's values
-      row-is : Sized mostVertices near → last < mostVertices → Same last F (openAt x) (openAt (weight near 0)) → (v : ℕ) → v < suc last → getD (row near 0) v (pos 0) ≡ x v
+      row-is : Sized mostVertices near → last < mostVertices → Same (UpTo last) (openAt x) (openAt (weight near 0)) → (v : ℕ) → v < suc last → getD (row near 0) v (pos 0) ≡ x v
       row-is sz l s v h = read mostVertices near 0 v sz (omega arith) (omega arith) ∙ sym (s v h)
 
       -- the formula is known to be true
@@ -69,9 +69,9 @@ module _ (last : ℕ) (F : Formula) where
       -- no place is left
       pub leading-end : Sized mostVertices near → last < mostVertices → length most ≤ decided → (v : ℕ) → v < suc last → getD (row near 0) v (pos 0) ≡ x v
       leading-end sz l h =
-          row-is sz l (go (known (F .program) ds) (subst (Same last F (openAt x)) (fast-end last F ds (at .facts) (places (F .program)) decided nowhere (weight near) (omega (arith, lent-most (F .program) kinds left right most lent))) (at .leads)))
+          row-is sz l (go (known (F .program) ds) (subst (Same (UpTo last) (openAt x)) (fast-end last F ds (at .facts) (places (F .program)) decided nowhere (weight near) (omega (arith, lent-most (F .program) kinds left right most lent))) (at .leads)))
         where
-          go : (k : Three) → Same last F (openAt x) (calmNode k (weight near 0) (openAt (weight near 0))) → Same last F (openAt x) (openAt (weight near 0))
+          go : (k : Three) → Same (UpTo last) (openAt x) (calmNode k (weight near 0) (openAt (weight near 0))) → Same (UpTo last) (openAt x) (openAt (weight near 0))
           go fails s = absurd s
           go passes s = s
           go open? s = s
@@ -90,8 +90,8 @@ module _ (last : ℕ) (F : Formula) where
         down-here : Down last F (at .done) (p ∷ todo) ds (weight near)
         down-here = subst (λ l. Down last F (at .done) l ds (weight near)) todo-is (at .down)
 
-        leads-here : Same last F (openAt x) (fast last F (p ∷ todo) ds (at .facts) (weight near))
-        leads-here = subst (λ l. Same last F (openAt x) (fast last F l ds (at .facts) (weight near))) todo-is (at .leads)
+        leads-here : Same (UpTo last) (openAt x) (fast last F (p ∷ todo) ds (at .facts) (weight near))
+        leads-here = subst (λ l. Same (UpTo last) (openAt x) (fast last F l ds (at .facts) (weight near))) todo-is (at .leads)
 
         -- it isn't known to be false either
         open-here : known (F .program) ds ≡ open?
@@ -100,7 +100,7 @@ module _ (last : ℕ) (F : Formula) where
             go : (k : Three) → known (F .program) ds ≡ k → known (F .program) ds ≡ open?
             go open? e = e
             go passes e = absurd (unsure (sym (known-lent last F kinds left right most lent ds (knownKinds kinds ds) refl) ∙ e))
-            go fails e = absurd (subst (Same last F (openAt x)) (leaf-false last F (p ∷ todo) ds (at .facts) (weight near) e) leads-here)
+            go fails e = absurd (subst (Same (UpTo last) (openAt x)) (leaf-false last F (p ∷ todo) ds (at .facts) (weight near) e) leads-here)
 
         -- where the fact of p closes no negative cycle, taken so, and the rule goes on there
         module _ (d : Bool) (b n : ℕ) (closer : Grid) (bit-is : bit b ≡ d) (next : n ≡ suc decided) (closer-is : closer ≡ tabled (relax (weight near) (taken p d .right) (taken p d .left) (taken p d .most)) (suc last) near) where
@@ -108,21 +108,21 @@ module _ (last : ℕ) (F : Formula) where
           beyond = fast last F todo (ds ++ d ∷ []) (decide (at .facts) p d) (after (weight near) (taken p d))
 
           pub same-beyond : SameBelow last F (after (weight near) (taken p d)) (weight closer)
-          same-beyond u v hu hv = closer-same last F kinds left right most lent truths (at .facts) near decided (taken p d .right) (taken p d .left) (taken p d .most) few table u v hu hv ∙ ap (λ c. weight c u v) (sym closer-is)
+          same-beyond u v hu hv = closer-same last F near few table (taken p d) u v hu hv ∙ ap (λ c. weight c u v) (sym closer-is)
 
-          onward : pos 0 ≤ℤ (weight near (taken p d .left) (taken p d .right) +ℤ taken p d .most) → Same last F (openAt x) beyond → Leading x n (set truths decided b) closer
+          onward : pos 0 ≤ℤ (weight near (taken p d .left) (taken p d .right) +ℤ taken p d .most) → Same (UpTo last) (openAt x) beyond → Leading x n (set truths decided b) closer
           onward calm s =
               let w : Down last F (at .done ++ p ∷ []) todo (ds ++ d ∷ []) (weight closer) = down-table last F (after (weight near) (taken p d)) (weight closer) same-beyond (at .done ++ p ∷ []) todo (ds ++ d ∷ []) (down-next last F (at .done) p todo ds (weight near) down-here d calm) in
               let t = fast-table last F todo (ds ++ d ∷ []) (decide (at .facts) p d) (after (weight near) (taken p d)) (weight closer) same-beyond (w .ends) in
               let more : decisions (set truths decided b) (suc decided) ≡ ds ++ d ∷ [] = decided-more truths decided b long ∙ ap (λ c. ds ++ c ∷ []) bit-is in
-              rw next (record { done = at .done ++ p ∷ []; facts = decide (at .facts) p d; down = rw more w; leads = rw more (same-trans last F (openAt x) beyond (fast last F todo (ds ++ d ∷ []) (decide (at .facts) p d) (weight closer)) s t) })
+              rw next (record { done = at .done ++ p ∷ []; facts = decide (at .facts) p d; down = rw more w; leads = rw more (same-trans (UpTo last) (openAt x) beyond (fast last F todo (ds ++ d ∷ []) (decide (at .facts) p d) (weight closer)) s t) })
 
         module _ (n : ℕ) (closer : Grid) (next : n ≡ suc decided) where
           -- into the true half, where the formula is open
           pub leading-true : closer ≡ tabled (relax (weight near) (p .right) (p .left) (p .most)) (suc last) near → pos 0 ≤ℤ (weight near (p .left) (p .right) +ℤ p .most) → (y : Values) → TrueIn last F (weight closer) y → Leading x n (set truths decided 1) closer
           leading-true e calm y s =
               onward true 1 n closer refl next e calm
-              (subst (Same last F (openAt x)) (down-true last F (at .done) p todo ds (at .facts) (weight near) down-here open-here calm y (true-table last F (after (weight near) p) (weight closer) (same-beyond true 1 n closer refl next e) y s)) leads-here)
+              (subst (Same (UpTo last) (openAt x)) (down-true last F (at .done) p todo ds (at .facts) (weight near) down-here open-here calm y (true-table last F (after (weight near) p) (weight closer) (same-beyond true 1 n closer refl next e) y s)) leads-here)
 
         -- the true half is shut, as the code finds it: its fact closes a negative cycle, or the formula is true at no values that meet it
         abbrev pub NotTrue : Grid → Type 0
@@ -136,11 +136,11 @@ module _ (last : ℕ) (F : Formula) where
               go (inl l) = inl l
               go (inr (e, f)) = inr (λ y s. f y (table-true last F (after (weight near) p) (weight tried) (same-beyond true 1 (suc decided) tried refl refl e) y s))
 
-          second : (pos 0 ≤ℤ (weight near (p .right) (p .left) +ℤ taken p false .most)) × Same last F (openAt x) (fast last F todo (ds ++ false ∷ []) (decide (at .facts) p false) (after (weight near) (taken p false)))
+          second : (pos 0 ≤ℤ (weight near (p .right) (p .left) +ℤ taken p false .most)) × Same (UpTo last) (openAt x) (fast last F todo (ds ++ false ∷ []) (decide (at .facts) p false) (after (weight near) (taken p false)))
           second =
-              let o = same-open last F x (fast last F (p ∷ todo) ds (at .facts) (weight near)) leads-here in
+              let o = same-open (UpTo last) x (fast last F (p ∷ todo) ds (at .facts) (weight near)) leads-here in
               let r = down-false last F (at .done) p todo ds (at .facts) (weight near) down-here open-here true-shut (o .0) (o .1) in
-              (r .0, subst (Same last F (openAt x)) (o .1 ∙ sym (r .1)) leads-here)
+              (r .0, subst (Same (UpTo last) (openAt x)) (o .1 ∙ sym (r .1)) leads-here)
 
           -- into the false half
           pub calm-false : pos 0 ≤ℤ (weight near (p .right) (p .left) +ℤ taken p false .most)

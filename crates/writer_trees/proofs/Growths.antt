@@ -1,5 +1,5 @@
 -- Laws for the writer's recursion: a node is written, then one half and the other; the facts and their closure go down with each decision.
-use Prim.Native.Nat.{ℕ, suc, _≤_}
+use Prim.Native.Nat.{ℕ, suc, _≤_, _<_}
 use mathlib.Core.Path.{_≡_, refl, sym, ap, _∙_}
 use mathlib.Core.Bool.{Bool, true, false, cond}
 use mathlib.Core.Option.{Option, none, some}
@@ -14,21 +14,21 @@ use Rattle.page_numbers.proofs.Bridge.{ints, eq-out}
 use Rattle.page_numbers.proofs.Machine.{machine, lt-false}
 use mir.Syntax.{w64}
 use mir.Val.{SFits}
+use Rattle.page_meaning.specs.Limits.{mostVertices}
 use Rattle.page_walks.specs.Grid.{Grid, weight, tighten, far, farN}
-use Rattle.page_walks.specs.Sizes.{tabled, least-weight, Bounded, AllWithin}
-use Rattle.page_walks.specs.Near.{relax}
+use Rattle.page_walks.specs.Sizes.{least-weight, Bounded, Sized, AllWithin}
 use Rattle.cycles.specs.Found as Found
 use Rattle.cycles.specs.declared.Cycle.{Cycle}
 use Rattle.page_walks.proofs.Grids.{tighten-keeps, tighten-le, tighten-sized}
-use Rattle.page_walks.proofs.Rows.{tabled-sized}
-use Rattle.page_walks.proofs.Nears.{relax-closure, tightened, tabled-closure, near-small}
-use Rattle.page_formulas.specs.Formulas.{Formula}
 use Rattle.page_formulas.specs.Known.{Three, fails, passes, open?}
 use Rattle.page_sheets.specs.Fast.{strainedNode, cycleOf}
 use Rattle.page_sheets.specs.Tree.{bytesOf, cycle}
 use Rattle.page_sheets.specs.Grow.{Growth, shut, openAt, join}
 use Rattle.room.specs.Room.{Filling, filling, putOne, puts}
-use Rattle.writer_trees.specs.Growing.{Grows, Ready, cutBytes}
+use Rattle.tableau.specs.Closed.{Tight, Closer}
+use Rattle.tableau.proofs.Tightens.{closer-tabled}
+use Rattle.writer_trees.specs.Trees.{Grows, Ready, cutBytes}
+use Rattle.writer_trees.specs.Leaves.{with}
 use Rattle.grid.specs.Edges.{Fact, Kept}
 use Rattle.room.specs.declared.Spot.{Spot}
 use Rattle.page_sheets.proofs.Fasts.{Same}
@@ -36,11 +36,11 @@ use Rattle.room.proofs.Puts.{puts-append, puts-over}
 
 -- ---- what is left by growths
 
--- growths that are the same at the vertices leave the same
-pub grows-same : (last : ℕ) (F : Formula) (a b : Growth) → Same last F a b → (old : List ℕ) (s : Spot) (new : List ℕ) (r : Spot) → Grows old s b new r → Grows old s a new r
-grows-same last F (shut t) (shut t′) e old s new r g = g ∙ ap (λ x. puts (filling old s) (bytesOf x)) (sym e)
-grows-same last F (shut t) (openAt y) e old s new r g = absurd e
-grows-same last F (openAt x) b e old s new r g = tt
+-- growths that are the same at some vertices leave the same
+pub grows-same : (H : ℕ → Type 0) (a b : Growth) → Same H a b → (old : List ℕ) (s : Spot) (new : List ℕ) (r : Spot) → Grows old s b new r → Grows old s a new r
+grows-same H (shut t) (shut t′) e old s new r g = g ∙ ap (λ x. puts (filling old s) (bytesOf x)) (sym e)
+grows-same H (shut t) (openAt y) e old s new r g = absurd e
+grows-same H (openAt x) b e old s new r g = tt
 
 -- past the room's end nothing is stored
 pub grows-over : (a : Growth) (old : List ℕ) (s : Spot) → s .over ≡ true → Grows old s a old s
@@ -73,31 +73,23 @@ module _ (last from to : ℕ) (k : ℤ) (fact : Fact last from to k) where
 
   pub kept-next : (g : Grid) → Kept g → Kept (tighten g from to k)
   kept-next g kept = record {
-    sized = tighten-sized 17 g from to k (kept .sized);
+    sized = tighten-sized mostVertices g from to k (kept .sized);
     ceiling = λ u v. omega (ints, tighten-le g from to k u v, kept .ceiling u v);
     floor = λ u v. tighten-keeps (λ z. dn z ≤ least-weight) g from to k u v (kept .floor u v) (λ a b. fact .low);
   }
 
-module _ (last : ℕ) (left right : List ℕ) (most : List ℤ) (g near : Grid) (ready : Ready last left right most g near) where
-  pub near-within : AllWithin farN (suc last) near
-  near-within = record { entry = λ u v hu hv. let b = near-small (suc last) (weight g) (weight near) (ready .kept .ceiling) (ready .closed) u v hu hv in record { high = b .0; low = b .1 } }
+-- the table of least sums with it, where it closes no negative cycle
+pub with-closer : (last : ℕ) → last < mostVertices → (near : Grid) → Sized mostVertices near → Tight (suc last) near → (from to : ℕ) (k : ℤ) → Fact last from to k → pos 0 ≤ℤ (weight near to from +ℤ k) → Closer (suc last) near from to k (with last near from to k)
+with-closer last few near table tight from to k fact h = closer-tabled (suc last) near tight (omega arith) table from to k (fact .from-is) (fact .to-is) (with last near from to k) refl h
 
+module _ (last : ℕ) (left right : List ℕ) (most : List ℤ) (g near : Grid) (ready : Ready last left right most g near) where
   module _ (from to : ℕ) (k : ℤ) (fact : Fact last from to k) where
-    -- where it closes no negative cycle, its grid and the closure in a table are ready
-    pub ready-next : pos 0 ≤ℤ (weight near to from +ℤ k) → Ready last left right most (tighten g from to k) (tabled (relax (weight near) from to k) (suc last) near)
-    ready-next h =
-        let g₂ = tighten g from to k in
-        let few : suc last ≤ 17 = omega (arith, ready .places .few) in
-        let t = tightened 17 g from to k (ready .kept .sized) (omega (arith, ready .places .few, fact .from-is)) (omega (arith, ready .places .few, fact .to-is)) in
-        record {
-          places = ready .places;
-          closed = tabled-closure (suc last) 17 (weight g₂) (relax (weight near) from to k) near few (ready .table) (relax-closure (suc last) (weight g) (weight near) (ready .closed) from to k (fact .from-is) (fact .to-is) (weight g₂) t h);
-          kept = kept-next last from to k fact g (ready .kept);
-          table = tabled-sized (relax (weight near) from to k) 17 (suc last) near few (ready .table);
-        }
+    -- where it closes no negative cycle, the grid and the table with it are ready
+    pub ready-next : pos 0 ≤ℤ (weight near to from +ℤ k) → Ready last left right most (tighten g from to k) (with last near from to k)
+    ready-next h = let c = with-closer last (ready .places .few) near (ready .table) (ready .tight) from to k fact h in record { places = ready .places; kept = kept-next last from to k fact g (ready .kept); table = c .sized; tight = c .tight }
 
     -- the same, as the code hands it on
-    pub ready-handed : (x : ℤ) (facts closer : Grid) → x ≡ weight near to from +ℤ k → facts ≡ tighten g from to k → closer ≡ tabled (relax (weight near) from to k) (suc last) near → ltZ x (pos 0) ≡ false → Ready last left right most facts closer
+    pub ready-handed : (x : ℤ) (facts closer : Grid) → x ≡ weight near to from +ℤ k → facts ≡ tighten g from to k → closer ≡ with last near from to k → ltZ x (pos 0) ≡ false → Ready last left right most facts closer
     ready-handed x facts closer e i j t = rw (i, j) (ready-next (omega (ints, lt-false x (pos 0) t, eq-out e)))
 
 -- ---- a node whose facts close a negative cycle

@@ -2,6 +2,5 @@ pub mod Growths
 pub mod Halves
 pub mod Descents
 pub mod Tries
-pub mod Starts
 pub mod Plants
 pub mod Roots

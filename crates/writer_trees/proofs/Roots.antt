@@ -5,11 +5,8 @@ use mathlib.Core.List.{List, []}
 use native.Mathlib.Omega.{arith}
 use lib.ListN.{length, take, length-take}
 use lib.IntN.{ℤ}
-use lib.Signed.{_≤ℤ_}
-use Rattle.page_numbers.proofs.Bridge.{ints}
 use Rattle.page_meaning.specs.Limits.{mostVertices}
-use Rattle.page_walks.specs.Grid.{Grid, weight, far}
-use Rattle.page_walks.specs.Near.{Closure}
+use Rattle.page_walks.specs.Grid.{Grid}
 use Rattle.page_formulas.specs.Formulas.{Formula}
 use Rattle.page_formulas.specs.Program.{Values}
 use Rattle.page_formulas.specs.Proper.{Proper}
@@ -18,18 +15,14 @@ use Rattle.program.specs.Lent.{Coded}
 use Rattle.page_sheets.specs.Facts.{start}
 use Rattle.page_sheets.specs.Grow.{openAt, growTree}
 use Rattle.page_sheets.specs.Sheet.{lastVertex}
-use Rattle.page_sheets.proofs.Fasts.{Same, same-open}
-use Rattle.page_sheets.proofs.NearStart.{start-far}
+use Rattle.page_sheets.proofs.Fasts.{Here, UpTo, Same, same-open}
+use Rattle.page_sheets.proofs.Fit.{present-below}
 use Rattle.tableau.specs.Closed.{Tight}
 use Rattle.tableau.specs.Nodes.{Tells}
 use Rattle.tableau.specs.declared.types.Tree.{Tree}
-use Rattle.writer_trees.specs.Growing.{Placing, fastAt}
-use Rattle.writer_trees.specs.Starting.{NearStarts}
-use Rattle.writer_trees.specs.Descending.{Opening, Descendable, Leaf}
-use Rattle.writer_trees.proofs.Plants.{placing, planted-same}
-
-tight-of : (n : ℕ) (g near : Grid) → Closure n (weight g) (weight near) → ((u v : ℕ) → weight g u v ≤ℤ far) → Tight n near
-tight-of n g near c f = record { itself = c .itself; triangle = c .triangle; ceiling = λ u v hu hv. omega (ints, c .edge u v hu hv, f u v) }
+use Rattle.writer_trees.specs.Trees.{Placing, fastAt}
+use Rattle.writer_trees.specs.Leaves.{Opening, Descendable, Leaf}
+use Rattle.writer_trees.proofs.Plants.{Begun, placing, planted-same}
 
 -- ---- the parts that are lent are as long as said
 
@@ -39,16 +32,16 @@ kinds-long F kinds n left right most few c = ap length (c .lent .kinds) ∙ kind
 pub reaches : {A : Type 0} (n : ℕ) (l : List A) → length (take n l) ≡ n → n ≤ length l
 reaches n l e = omega (arith, length-take n l)
 
-module _ (F : Formula) (kinds : List ℕ) (n : ℕ) (left right : List ℕ) (most : List ℤ) (few : ℕ) (c : Coded F kinds n left right most few) (p : Proper F) (t : Tree) (tells : Tells t (F .program)) (last-is : t .last ≡ length (F .ranges)) (near : Grid) (s : NearStarts (suc (length (F .ranges))) (F .ranges) near) where
+module _ (F : Formula) (kinds : List ℕ) (n : ℕ) (left right : List ℕ) (most : List ℤ) (few : ℕ) (c : Coded F kinds n left right most few) (p : Proper F) (t : Tree) (tells : Tells t (F .program)) (last-is : t .last ≡ length (F .ranges)) (near : Grid) (s : Begun F near) where
   abbrev facts : Grid
   facts = start mostVertices (F .ranges)
 
   module _ (x : Values) (opens : growTree lastVertex F ≡ openAt x) where
-    same : Same (length (F .ranges)) F (openAt x) (fastAt (length (F .ranges)) F 0 [] facts near)
-    same = subst (λ r. Same (length (F .ranges)) F r (fastAt (length (F .ranges)) F 0 [] facts near)) opens (planted-same F kinds n left right most few c p [] facts near refl s)
+    same : Same (Here (F .ranges)) (openAt x) (fastAt (length (F .ranges)) F 0 [] facts near)
+    same = subst (λ r. Same (Here (F .ranges)) r (fastAt (length (F .ranges)) F 0 [] facts near)) opens (planted-same F kinds n left right most few c p [] facts near refl s)
 
     there : (y : Values) × (fastAt (length (F .ranges)) F 0 [] facts near ≡ openAt y)
-    there = same-open (length (F .ranges)) F x (fastAt (length (F .ranges)) F 0 [] facts near) same
+    there = same-open (Here (F .ranges)) x (fastAt (length (F .ranges)) F 0 [] facts near) same
 
     -- the leaf's values by the closure
     pub root-values : Values
@@ -63,13 +56,13 @@ module _ (F : Formula) (kinds : List ℕ) (n : ℕ) (left right : List ℕ) (mos
       short = omega (arith, kinds-long F kinds n left right most few c, c .n-is, p .short);
       places = subst (λ m. Placing m (take few left) (take few right) (take few most)) (sym last-is) (placing F kinds n left right most few c p);
       table = s .table;
-      tight = subst (λ m. Tight (suc m) near) (sym last-is) (tight-of (suc (length (F .ranges))) facts near (s .closed) (start-far mostVertices (F .ranges)));
+      tight = subst (λ m. Tight (suc m) near) (sym last-is) (s .tight);
       formula = F;
       values = root-values;
       opening = root-opening;
     }
 
     -- they are the writer's rule's
-    pub root-leaf : (r : List ℤ) → Leaf (t .last) root-values r → Leaf (length (F .ranges)) x r
+    pub root-leaf : (r : List ℤ) → Leaf (UpTo (t .last)) root-values r → Leaf (Here (F .ranges)) x r
     unfolding root-values there
-    root-leaf r h v l = h v (omega (arith, last-is)) ∙ sym ((subst (Same (length (F .ranges)) F (openAt x)) (there .1) same) v l)
+    root-leaf r h v l = h v (omega (arith, last-is, present-below (F .ranges) v l)) ∙ sym ((subst (Same (Here (F .ranges)) (openAt x)) (there .1) same) v l)

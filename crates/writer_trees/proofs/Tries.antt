@@ -8,16 +8,9 @@ use native.Mathlib.Omega.{arith}
 use lib.ListN.{length, set}
 use lib.IntN.{ℤ, pos, _+ℤ_}
 use lib.Signed.{_≤ℤ_, _<ℤ_}
-use mir.Syntax.{w64}
-use mir.Val.{SFits}
-use Rattle.page_numbers.proofs.Bridge.{ints, +law, min-spec}
-use Rattle.page_numbers.proofs.Machine.{machine}
 use Rattle.page_meaning.specs.Limits.{mostVertices, mostDecisions}
 use Rattle.page_walks.specs.Grid.{Grid, weight}
 use Rattle.page_walks.specs.Sizes.{Sized}
-use Rattle.page_walks.specs.Near.{via, relax, Least}
-use Rattle.page_walks.proofs.Rows.{tabled-sized, tabled-at}
-use Rattle.page_walks.proofs.Nears.{relax-least}
 use Rattle.page_formulas.specs.Formulas.{Formula}
 use Rattle.page_formulas.specs.Known.{Three, fails, passes, open?}
 use Rattle.page_formulas.specs.Kinds.{knownKinds}
@@ -30,15 +23,14 @@ use Rattle.page_sheets.proofs.Fasts.{Same}
 use Rattle.page_sheets.proofs.Descends.{TrueIn}
 use Rattle.grid.specs.Edges.{Fact}
 use Rattle.tableau.specs.Closed.{Tight}
+use Rattle.tableau.proofs.Tightens.{tight-least}
 use Rattle.tableau.specs.Nodes.{Tells}
 use Rattle.tableau.specs.Goals.{Opens, held, TrueUnder}
 use Rattle.tableau.specs.declared.types.Tree.{Tree}
-use Rattle.writer_trees.specs.Growing.{decisions, fastAt}
-use Rattle.writer_trees.specs.Descending.{passing, with, Tries, Opening, Descendable}
+use Rattle.writer_trees.specs.Trees.{decisions, fastAt}
+use Rattle.writer_trees.specs.Leaves.{passing, with, Tries, Opening, Descendable}
+use Rattle.writer_trees.proofs.Growths.{with-closer}
 use Rattle.writer_trees.proofs.Descents.{Leading, leading-start, leading-true, NotTrue, calm-false, leading-false}
-
-least-of : (n : ℕ) (near : Grid) → Tight n near → Least n (weight near)
-least-of n near t = record { itself = t .itself; triangle = t .triangle }
 
 pub passing-is : (k : Three) → passing k ≡ true → k ≡ passes
 passing-is fails e = absurd (true≢false (sym e))
@@ -46,27 +38,7 @@ passing-is passes e = refl
 passing-is open? e = absurd (true≢false (sym e))
 
 -- ---- one fact more
-module _ (last : ℕ) (few : last < mostVertices) (near : Grid) (table : Sized mostVertices near) (from to : ℕ) (k : ℤ) where
-  pub with-sized : Sized mostVertices (with last near from to k)
-  with-sized = tabled-sized (relax (weight near) from to k) mostVertices (suc last) near (omega arith) table
-
-  module _ (tight : Tight (suc last) near) (fact : Fact last from to k) where
-    entry : (u v : ℕ) → u < suc last → v < suc last → weight (with last near from to k) u v ≡ relax (weight near) from to k u v
-    entry u v hu hv = tabled-at (relax (weight near) from to k) mostVertices (suc last) near (omega arith) table u v hu hv
-
-    less : (u v : ℕ) → relax (weight near) from to k u v ≤ℤ weight near u v
-    unfolding relax
-    less u v = min-spec (weight near u v) (via (weight near) from to k u v) .0
-
-    pub with-tight : pos 0 ≤ℤ (weight near to from +ℤ k) → Tight (suc last) (with last near from to k)
-    with-tight h =
-        let l = relax-least (suc last) (weight near) (least-of (suc last) near tight) from to k (fact .from-is) (fact .to-is) h in
-        record {
-          itself = λ u hu. entry u u hu hu ∙ l .itself u hu;
-          triangle = λ u v x hu hv hx. rw (entry u x hu hx, entry u v hu hv, entry v x hv hx) (l .triangle u v x hu hv hx);
-          ceiling = λ u v hu hv. rw (entry u v hu hv) (omega (ints, less u v, tight .ceiling u v hu hv));
-        }
-
+module _ (last : ℕ) (near : Grid) (from to : ℕ) (k : ℤ) where
   -- the answer
   pub answered : (b : Bool) (values : List ℤ) (p : Program) (tried : Grid) → tried ≡ with last near from to k → pos 0 ≤ℤ (weight near to from +ℤ k) → Opens b values (TrueUnder p last tried) → Tries b p last near from to k tried
   answered true values p tried e h o = (h, e, (held values, o))
@@ -85,7 +57,7 @@ module _ (kinds left right : List ℕ) (most : List ℤ) (t : Tree) (root : Grid
     going-start truths = record {
       table = d .table;
       tight = d .tight;
-      leading = λ F x o. leading-start (t .last) F kinds left right most (o .lent) root (d .places) (least-of (suc (t .last)) root (d .tight)) truths (o .facts) x (rw (o .opens) (λ v h. refl));
+      leading = λ F x o. leading-start (t .last) F kinds left right most (o .lent) root (d .places) (tight-least (suc (t .last)) root (d .tight)) truths (o .facts) x (rw (o .opens) (λ v h. refl));
     }
 
     module _ (i : ℕ) (near : Grid) (truths : List ℕ) (w : Going i near truths) (h : i < length most) (long : length truths ≡ mostDecisions) (k : passing (knownKinds kinds (decisions truths i)) ≡ false) (n : ℕ) (next : n ≡ suc i) where
@@ -119,9 +91,10 @@ module _ (kinds left right : List ℕ) (most : List ℤ) (t : Tree) (root : Grid
       go-true : (tried : Grid) (more : List ℕ) → more ≡ set truths i 1 → ((P : Program) → Tells t P → Tries true P last near (p .right) (p .left) (p .most) tried) → Going n tried more
       go-true tried more e ask =
           let a = ask (d .formula .program) (d .opening .tells) in
+          let c = with-closer last few near (w .table) (w .tight) (p .right) (p .left) (p .most) (d .places .facts i h true) (a .0) in
           record {
-            table = rw (a .1) (with-sized last few near (w .table) (p .right) (p .left) (p .most));
-            tight = rw (a .1) (with-tight last few near (w .table) (p .right) (p .left) (p .most) (w .tight) (d .places .facts i h true) (a .0));
+            table = rw (a .1) (c .sized);
+            tight = rw (a .1) (c .tight);
             leading = λ F x o.
                 let b = ask (F .program) (o .tells) in
                 rw e (leading-true last F kinds left right most (o .lent) x i truths near (w .leading F x o) h unsure inside few (w .table) n tried next (b .1) (b .0) (b .2 .0) (seen F tried (b .2 .0) (b .2 .1)));
@@ -138,9 +111,10 @@ module _ (kinds left right : List ℕ) (most : List ℤ) (t : Tree) (root : Grid
           let F = d .formula in
           let x = d .values in
           let calm = calm-false last F kinds left right most (o .lent) x i truths near (w .leading F x o) h unsure inside few (w .table) tried (shut-as F x o tried (ask (F .program) (o .tells))) in
+          let m = with-closer last few near (w .table) (w .tight) (p .left) (p .right) (taken p false .most) (d .places .facts i h false) calm in
           record {
-            table = rw c (with-sized last few near (w .table) (p .left) (p .right) (taken p false .most));
-            tight = rw c (with-tight last few near (w .table) (p .left) (p .right) (taken p false .most) (w .tight) (d .places .facts i h false) calm);
+            table = rw c (m .sized);
+            tight = rw c (m .tight);
             leading = λ F x o. rw e (leading-false last F kinds left right most (o .lent) x i truths near (w .leading F x o) h unsure inside few (w .table) tried (shut-as F x o tried (ask (F .program) (o .tells))) n closer next c);
           }
 

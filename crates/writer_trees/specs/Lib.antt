@@ -1,3 +1,2 @@
-pub mod Growing
-pub mod Descending
-pub mod Starting
+pub mod Trees
+pub mod Leaves

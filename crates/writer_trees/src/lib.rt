@@ -1,5 +1,3 @@
-// A formula's tree, by the writer's rule.
-pub mod descending;
-pub mod growing;
-pub mod planting;
-mod starting;
+// A formula's tree, by the writer's rule, and its first open leaf.
+pub mod leaves;
+pub mod trees;

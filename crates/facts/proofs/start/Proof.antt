@@ -1,4 +1,5 @@
-use Prim.Native.Nat.{_+_, _-_, _≤_}
+use native.Mathlib.Omega.{arith}
+use Prim.Native.Nat.{suc, _+_, _-_, _≤_}
 use mathlib.Core.Path.{_≡_, sym, _∙_}
 use borrow.Author.Needs.{needs}
 use lib.IntN.{pos}
@@ -18,10 +19,10 @@ use Rattle.facts.proofs.start.Tie as tie
 
 abbrev Inv-loop : tie.InvT-loop
 Inv-loop shown lo hi g₀ i₀ g i =
-    (i ≤ 16) × AllWithin farN mostVertices g × ((rs : Ranges) → Spanned rs shown lo hi → confineAll g (i + 1) (drop i rs) ≡ start mostVertices rs)
+    (suc i ≤ mostVertices) × AllWithin farN mostVertices g × ((rs : Ranges) → Spanned rs shown lo hi → confineAll g (i + 1) (drop i rs) ≡ start mostVertices rs)
 
 abbrev μ-loop : tie.MeasureT-loop
-μ-loop shown lo hi g₀ i₀ g i = 16 - i
+μ-loop shown lo hi g₀ i₀ g i = mostVertices - suc i
 
 blank-requires : tie.Need-blank-requires Inv-loop μ-loop
 blank-requires c κs = search needs
@@ -85,7 +86,7 @@ returns : tie.Need-returns Inv-loop μ-loop
 returns c =
     let l = c .before .loop in
     let a = c .before .before .before .args in
-    record { meaning = λ rs s. sym (start-end rs (a .t1) (a .t2) (a .t3) s (l .g) (l .i) (c .loop-test .left)) ∙ l .inv .2 rs s; small = l .inv .1 }
+    record { meaning = λ rs s. sym (start-end rs (a .t1) (a .t2) (a .t3) s (l .g) (l .i) (omega (arith, c .loop-test .left))) ∙ l .inv .2 rs s; small = l .inv .1 }
 
 pub start-spec : {M : Type 1} → statement M
 start-spec =

@@ -1,0 +1,105 @@
+use native.Mathlib.Omega.{arith}
+use Prim.Native.Nat.{_-_}
+use mathlib.Core.Path.{_≡_, sym, _∙_}
+use denote.Ref.{now}
+use lib.ListN.{length, take}
+use Rattle.page_meaning.specs.Limits.{mostVertices}
+use Rattle.page_walks.proofs.Rows.{sized}
+use Rattle.page_formulas.specs.Formulas.{Formula}
+use Rattle.page_formulas.specs.Proper.{Proper}
+use Rattle.program.specs.Lent.{Coded}
+use Rattle.program.specs.Compiled.{Compiled}
+use Rattle.program.proofs.Lends.{small-spans, spanned-of}
+use Rattle.program.proofs.Ranges.{coded-of, ranging-of, ranged}
+use Rattle.facts.proofs.Places.{lengths}
+use Rattle.writer_trees.proofs.Plants.{Begun, begun-of, root-ready, root-grows}
+use Rattle.writer_trees.proofs.Roots.{kinds-long, reaches}
+use borrow.Author.Needs.{needs}
+use Rattle.writer_trees.proofs.trees.plant_formula.Statement.{statement}
+use Rattle.writer_trees.proofs.trees.plant_formula.Tie as tie
+
+-- the formula's program, as it is lent
+coded : (s : tie.Start) → let p = s .args .f .program in Coded (s .pre .formula) (p .kinds) (p .count) (p .left) (p .right) (p .most) (p .places)
+coded s = coded-of (s .args .f) (s .pre .formula) (s .pre .is)
+
+start-requires : tie.Need-start-requires
+start-requires c κs =
+    let s = c .before .before .before .before .before .before in
+    let q = s .pre in
+    small-spans _ _ _ _ (spanned-of (s .args .f) (q .formula) (q .is) (q .proper .vertices)) (q .proper .ranges-small)
+
+begin-requires : tie.Need-begin-requires
+begin-requires c κs =
+    let s = c .before .before .before .before .before .before .before in
+    let q = s .pre in
+    ranged _ _ _ _ _ (ranging-of (s .args .f) (q .formula) (q .is) (q .proper .vertices)) (q .proper .ranges-small) (q .proper .ranges-some)
+
+-- the closure is that of the ranges
+near-is : (c : tie.After-begin) → let f = c .before .before .before .before .before .before .before .before .args .f in (F : Formula) → Compiled f F → Proper F → Begun F (c .begin .result)
+near-is c = λ F is proper. begun-of F proper _ _ _ _ (ranging-of (c .before .before .before .before .before .before .before .before .args .f) F is (proper .vertices)) (c .begin .result) (sized mostVertices (c .begin .result) _ (c .begin .ok)) (c .begin .ensures)
+
+sub-t19 : tie.Need-sub-t19
+sub-t19 c = search needs
+
+array-share-prefix-kinds : tie.Need-array-share-prefix-kinds
+array-share-prefix-kinds c = let s = c .before .before .before .before .before .before .before .before .before .before .before .before .before .before in reaches _ _ (kinds-long _ _ _ _ _ _ _ (coded s))
+
+slice-aggregate-grow : tie.Need-slice-aggregate-grow
+slice-aggregate-grow c = let s = c .before .before .before .before .before .before .before .before .before .before .before .before .before .before .before in sym (kinds-long _ _ _ _ _ _ _ (coded s))
+
+array-share-prefix-left : tie.Need-array-share-prefix-left
+array-share-prefix-left c = let s = c .before .before .before .before .before .before .before .before .before .before .before .before .before .before .before in reaches _ _ (lengths _ _ _ _ _ _ _ (coded s) .0)
+
+slice-aggregate-grow-2 : tie.Need-slice-aggregate-grow-2
+slice-aggregate-grow-2 c = let s = c .before .before .before .before .before .before .before .before .before .before .before .before .before .before .before .before in sym (lengths _ _ _ _ _ _ _ (coded s) .0)
+
+array-share-prefix-right : tie.Need-array-share-prefix-right
+array-share-prefix-right c = let s = c .before .before .before .before .before .before .before .before .before .before .before .before .before .before .before .before in reaches _ _ (lengths _ _ _ _ _ _ _ (coded s) .1)
+
+slice-aggregate-grow-3 : tie.Need-slice-aggregate-grow-3
+slice-aggregate-grow-3 c = let s = c .before .before .before .before .before .before .before .before .before .before .before .before .before .before .before .before .before in sym (lengths _ _ _ _ _ _ _ (coded s) .1)
+
+array-share-prefix-most : tie.Need-array-share-prefix-most
+array-share-prefix-most c = let s = c .before .before .before .before .before .before .before .before .before .before .before .before .before .before .before .before .before in reaches _ _ (lengths _ _ _ _ _ _ _ (coded s) .2)
+
+slice-aggregate-grow-4 : tie.Need-slice-aggregate-grow-4
+slice-aggregate-grow-4 c = let s = c .before .before .before .before .before .before .before .before .before .before .before .before .before .before .before .before .before .before in sym (lengths _ _ _ _ _ _ _ (coded s) .2)
+
+grow-requires : tie.Need-grow-requires
+grow-requires c κs =
+    let s = c .before .before .before .before .before .before .before .before .before .before .before .before .before .before .before .before .before .before .before .before in
+    let q = s .pre in
+    let k = coded s in
+    let l = lengths _ _ _ _ _ _ _ k in (
+      omega (arith, kinds-long _ _ _ _ _ _ _ k, k .n-is, q .proper .short),
+      omega (arith, l .2),
+      root-ready _ _ _ _ _ _ _ k (q .proper) (s .args .f .vertices .count - 1) (omega (arith, q .is .vertices .count)) _ _ (c .before .before .before .before .before .before .before .before .before .before .before .before .before .start .ensures .meaning _ (spanned-of (s .args .f) (q .formula) (q .is) (q .proper .vertices))) (near-is (c .before .before .before .before .before .before .before .before .before .before .before .before) (q .formula) (q .is) (q .proper)),
+    )
+
+same-length : tie.Need-same-length
+same-length c = search needs
+
+returns : tie.Need-returns
+returns c =
+    let s = c .before .before .before .before .before .before .before .before .before .before .before .before .before .before .before .before .before .before .before .before .before .before .before in
+    let f = s .args .f in
+    λ F is proper. root-grows F _ _ _ _ _ _ (coded-of f F is) proper (f .vertices .count - 1) (length (take (f .program .places) (f .program .most)) - f .program .places) (omega (arith, is .vertices .count)) (omega (arith, lengths F _ _ _ _ _ _ (coded-of f F is) .2)) _ _ _ (c .before .before .before .before .before .before .before .before .before .before .before .before .before .before .before .before .start .ensures .meaning _ (spanned-of f F is (proper .vertices))) (near-is (c .before .before .before .before .before .before .before .before .before .before .before .before .before .before .before) F is proper) (now (s .args .room)) (s .args .spot) _ _ (c .before .before .grow .ensures F (coded-of f F is .lent))
+
+pub plant-formula-spec : {M : Type 1} → statement M
+plant-formula-spec =
+    tie.close
+    (tie.spec
+    start-requires
+    begin-requires
+    sub-t19
+    array-share-prefix-kinds
+    slice-aggregate-grow
+    array-share-prefix-left
+    slice-aggregate-grow-2
+    array-share-prefix-right
+    slice-aggregate-grow-3
+    array-share-prefix-most
+    slice-aggregate-grow-4
+    grow-requires
+    same-length
+    returns)

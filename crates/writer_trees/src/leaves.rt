@@ -1,0 +1,127 @@
+// A formula's first open leaf, by going down once: at each node into the true half where the formula is open there, else into the false
+// half. The tableau tells, so no tree is walked.
+use crate::trees::Edge;
+use crate::trees::known_so_far;
+use closure::relax_in;
+use grid::VERTICES;
+use grid::edge;
+use ints::weights::negation;
+use program::types::Formula;
+use program::types::PLACES;
+use spreads::begin;
+use tableau::opening::opens_under;
+use tableau::treeing::tree;
+use tableau::types::Tree;
+use truth::knowing::Truth;
+ghost use mathlib.Core.Path.{_≡_};
+ghost use Prim.Native.Nat.{suc, _<_};
+ghost use lib.Dec.{T};
+ghost use Rattle.truth.specs.Cells.{threeOf};
+ghost use Rattle.page_formulas.specs.Formulas as written;
+ghost use Rattle.page_formulas.specs.Program.{Program, Values};
+ghost use Rattle.page_formulas.specs.Proper.{Proper};
+ghost use Rattle.page_formulas.specs.Vertices.{present};
+ghost use Rattle.program.specs.Compiled.{Compiled};
+ghost use Rattle.page_sheets.specs.Grow.{growTree, openAt};
+ghost use Rattle.page_sheets.specs.Sheet.{lastVertex};
+ghost use Rattle.tableau.specs.Nodes.{Tells};
+ghost use Rattle.writer_trees.specs.Leaves.{passing, Tries, Triable, Opening, Descendable, Leaf, FineOpen};
+
+// Is the formula known to be true?
+fn passes(t: Truth) -> bool
+    ensures { λ r. ⌜ r ≡ passing (threeOf t) ⌝ }
+{
+    match t {
+        Truth::Fails => false,
+        Truth::Passes => true,
+        Truth::Open => false,
+    }
+}
+
+// Is the formula open with one more fact? If so, it is one of the facts now.
+fn opens_with(t: Tree, near: &mut [[i64; VERTICES]; VERTICES], e: Edge) -> bool
+    requires { ⌜ Triable t (now near) (e .from) (e .to) (e .weight) ⌝ }
+    ensures { λ r. ⌜ ((p : Program) → Tells t p → Tries r p (t .last) (now (near .entry)) (e .from) (e .to) (e .weight) (now (near .exit))) ⌝ }
+{
+    let round = edge(near, e.to, e.from);
+    if round + e.weight < 0 {
+        return false;
+    }
+    relax_in(near, t.last + 1, e.from, e.to, e.weight);
+    let r = opens_under(t, *near);
+    r.open
+}
+
+// The leaf's values, from the closure of the facts at the root.
+fn descend(
+    kinds: &[u8],
+    left: &[u8],
+    right: &[u8],
+    most: &[i64],
+    t: Tree,
+    root: [[i64; VERTICES]; VERTICES],
+) -> [i64; VERTICES]
+    requires { ⌜ Descendable (now kinds) (now left) (now right) (now most) t root ⌝ }
+    ensures { λ r. ⌜ ((F : written.Formula) (x : Values) → Opening (now (kinds .entry)) (now (left .entry)) (now (right .entry)) (now (most .entry)) t root F x → Leaf (λ v. v < suc (t .last)) x r) ⌝ }
+{
+    let mut near = root;
+    let mut truths = [0u8; PLACES];
+    let mut i: usize = 0;
+    while i < most.len() {
+        let k = known_so_far(kinds, truths, i);
+        if passes(k) {
+            return near[0];
+        }
+        let a = left[i] as usize;
+        let b = right[i] as usize;
+        let w = most[i];
+        let mut tried = near;
+        let open = opens_with(
+            t,
+            &mut tried,
+            Edge {
+                from: b,
+                to: a,
+                weight: w,
+            },
+        );
+        if open {
+            near = tried;
+            truths[i] = 1;
+            i += 1;
+            continue;
+        }
+        relax_in(&mut near, t.last + 1, a, b, negation(w));
+        truths[i] = 0;
+        i += 1;
+    }
+    near[0]
+}
+
+// The same of a compiled formula.
+pub fn first_leaf(f: Formula) -> [i64; VERTICES]
+    requires { ⌜ FineOpen f ⌝ }
+    ensures { λ r. ⌜ ((F : written.Formula) (x : Values) → Compiled f F → Proper F → growTree lastVertex F ≡ openAt x → Leaf (λ v. T (present (F .ranges) v)) x r) ⌝ }
+{
+    let p = f.program;
+    let v = f.vertices;
+    let flags = v.present;
+    let lo = v.lo;
+    let hi = v.hi;
+    let near = begin(v.count, flags, lo, hi);
+    let t = tree(p, v.count - 1);
+    let kinds = p.kinds;
+    let left = p.left;
+    let right = p.right;
+    let most = p.most;
+    let n = p.count;
+    let few = p.places;
+    descend(
+        &kinds[..n],
+        &left[..few],
+        &right[..few],
+        &most[..few],
+        t,
+        near,
+    )
+}
