@@ -1,8 +1,8 @@
 -- The entries of a yes sheet that passes are bytes: each of them was tested.
-use Prim.Native.Nat.{ℕ, zero, suc, _+_, _*_, _-_, _≤_, _<_}
-use mathlib.Core.Path.{_≡_, refl, sym, ap, subst, _∙_}
+use Prim.Native.Nat.{ℕ, zero, suc, _+_, _*_, _≤_, _<_}
+use mathlib.Core.Path.{_≡_, ap, subst, _∙_}
 use mathlib.Core.Bool.{Bool, true, false, _&&_, cond}
-use mathlib.Core.List.{List, [], _∷_, _++_}
+use mathlib.Core.List.{List, [], _∷_}
 use native.Mathlib.Omega.{arith}
 use lib.ListN.{length, getD, drop}
 use lib.Seq.{getD-drop}
@@ -20,7 +20,7 @@ use Rattle.page_formulas.specs.Program.{Place, places}
 use Rattle.page_formulas.specs.Vertices.{Ranges, present}
 use Rattle.page_questions.specs.Accepted.{Every}
 use Rattle.page_sheets.specs.Facts.{start, decide}
-use Rattle.page_sheets.specs.Sheet.{sayYes, Answer, says, refusal, yesEnd, checkYes, checkBody, marked, versioned, checkSheet}
+use Rattle.page_sheets.specs.Sheet.{sayYes, says, yesEnd, checkYes, checkBody, marked, versioned, checkSheet}
 use Rattle.page_sheets.specs.Tree.{Outcome, passed, refused, andThen, Vertices, got, lacking, more, vertices, falseNode, cycleEnd, node, check}
 use Rattle.page_sheets.specs.Trees.{checkTrees}
 use Rattle.page_sheets.proofs.Fields.{field-says}

@@ -5,7 +5,6 @@ use mathlib.Core.Logic.{_↔_, _≢_, inl, inr}
 use mathlib.Core.Bool.{Bool, true, false, _&&_, cond}
 use mathlib.Core.List.{List, [], _∷_, _++_, append-nil}
 use native.Mathlib.Omega.{arith}
-use native.Mathlib.Numerals.{add-one}
 use borrow.Author.Tests.{le-leb, lt-leb, leb-true, leb-false}
 use lib.ListN.{length, getD, take, drop, drop-of-length-le}
 use lib.Seq.{drop-cons}
@@ -18,13 +17,13 @@ use Rattle.page_walks.specs.Grid.{Grid, weight}
 use Rattle.page_walks.specs.Walk.{closed}
 use Rattle.page_formulas.specs.Formulas.{Formula, formulas, noFormula}
 use Rattle.page_formulas.specs.Known.{Three, fails, passes, open?, known}
-use Rattle.page_formulas.specs.Program.{Place, places, truth}
+use Rattle.page_formulas.specs.Program.{Place, places}
 use Rattle.page_formulas.specs.Vertices.{Ranges, present}
 use Rattle.page_sheets.specs.Facts.{start, decide}
-use Rattle.page_sheets.specs.Faults.{Field, bytes, test, whole, asSaid, numberOf, placeOf, Run, run, followed, isNode, isFalse, vertexFields, cycleFields, restFields, nodeFields, treeFields, treesFields, yesFields, valueFields, rowFields, noFields, bodyFields, sheetFields, verdictBy, verdictIn, AllSaid, Fault, FirstFault}
-use Rattle.page_sheets.specs.Rows.{fields, fieldAt, valueAt, readValues, fieldOk}
+use Rattle.page_sheets.specs.Faults.{Field, test, whole, asSaid, numberOf, placeOf, Run, run, followed, isNode, isFalse, vertexFields, cycleFields, restFields, nodeFields, treeFields, treesFields, yesFields, valueFields, noFields, bodyFields, sheetFields, verdictBy, verdictIn, AllSaid, Fault, FirstFault}
+use Rattle.page_sheets.specs.Rows.{fields, fieldAt, valueAt, fieldOk}
 use Rattle.page_sheets.specs.Sheet.{Verdict, sayYes, sayNo, Answer, says, refusal, field, yesEnd, checkYes, checkFields, noEnd, checkRows, checkNo, checkBody, marked, versioned, checkSheet}
-use Rattle.page_sheets.specs.Tree.{Outcome, passed, refused, andThen, Vertices, got, lacking, more, vertices, falseNode, cycleEnd, cycleNode, node, check, checkTree}
+use Rattle.page_sheets.specs.Tree.{Outcome, passed, refused, andThen, got, lacking, more, vertices, falseNode, cycleEnd, cycleNode, node, check}
 use Rattle.page_sheets.specs.Trees.{checkTrees}
 
 -- ---- the first fault of some fields, or else an answer
@@ -66,10 +65,10 @@ module _ (s : List ℕ) where
       let end : at + suc n ≡ suc at + n = omega arith in
       at-byte (λ bs w. vertices rs (suc n) at bs ≡ cond w (cond (present rs v) (judge lacking s fs (got (take (suc n) bs) (at + suc n) (drop (at + suc n) s))) (lacking 14 at)) (lacking 11 at)) at
       (λ l. ap (λ r. cond (present rs v) r (lacking 14 at)) (
-          ap (more v) (vertices-judged rs n (suc at))
-          ∙ judge-then lacking lacking s (more v) (λ n p. refl) fs [] _ _ refl
-          ∙ ap (λ gs. judge lacking s gs (got (v ∷ take n (drop (suc at) s)) (suc at + n) (drop (suc at + n) s))) (append-nil fs)
-          ∙ ap (λ o. judge lacking s fs (got (v ∷ take n (drop (suc at) s)) o (drop o s))) (sym end)))
+      ap (more v) (vertices-judged rs n (suc at))
+      ∙ judge-then lacking lacking s (more v) (λ n p. refl) fs [] _ _ refl
+      ∙ ap (λ gs. judge lacking s gs (got (v ∷ take n (drop (suc at) s)) (suc at + n) (drop (suc at + n) s))) (append-nil fs)
+      ∙ ap (λ o. judge lacking s fs (got (v ∷ take n (drop (suc at) s)) o (drop o s))) (sym end)))
       refl
 
   module _ (N : ℕ) (F : Formula) where

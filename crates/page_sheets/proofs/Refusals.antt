@@ -1,21 +1,23 @@
 -- Each number that says no is given exactly when its cause is there.
-use Prim.Native.Nat.{ℕ, _<_}
+use Prim.Native.Nat.{ℕ, suc, _<_}
 use mathlib.Core.Path.{_≡_, refl, sym, ap, _∙_}
 use mathlib.Core.Logic.{_⊎_, inl, inr, _↔_, _≢_}
 use mathlib.Core.Bool.{Bool, true, false, _||_, cond}
 use mathlib.Core.List.{List}
 use native.Mathlib.Omega.{arith}
 use borrow.Author.Tests.{eqb-true, eqb-false, leb-true, leb-false}
-use lib.ListN.{length}
+use lib.ListN.{length, take}
 use lib.Dec.{eqb, leb}
 use Rattle.page_meaning.specs.Contents.{Question}
+use Rattle.page_questions.specs.Longest.{longest}
 use Rattle.page_questions.specs.Reader.{Read, good, bad, readOf}
+use Rattle.page_questions.proofs.Longest.{first-bytes-tell}
 use Rattle.page_questions.proofs.Refusals.{refused-bounds}
 use Rattle.page_sheets.specs.Answers.{askedOf, judge, verdictOf, checkFor, checkOf, Written, wrote, unwritten, Done, writeFor, writeOf}
 use Rattle.page_sheets.specs.Demands.{Askable}
 use Rattle.page_sheets.specs.Faults.{AllSaid, sheetFields, verdictIn}
-use Rattle.page_sheets.specs.Refusals.{NotAskable, TwentyExactly, TooLongExactly, ReadExactly, SheetExactly, PassExactly}
-use Rattle.page_sheets.specs.Sheet.{Verdict, Answer, says, refusal, verdictFor, findingOf, sheetOf, checkSheet}
+use Rattle.page_sheets.specs.Refusals.{NotAskable, TwentyExactly, TooLongExactly, ReadExactly, SheetExactly, PassExactly, FirstBytesAnswer}
+use Rattle.page_sheets.specs.Sheet.{Answer, says, refusal, verdictFor, findingOf, sheetOf, checkSheet}
 use Rattle.page_sheets.proofs.Faults.{numberIn, placeIn, says-apart, sheet-refused, sheet-taken}
 use Rattle.page_sheets.proofs.Numbers.{sheet-own}
 
@@ -57,9 +59,9 @@ module _ {A : Type 0} (refuse : ℕ → ℕ → A) (number place : A → ℕ) (i
       forth : f (askedOf a s) ≡ refuse 20 p → NotAskable a p
       forth e = elim (asked-cases a s) [
         | inl x ↦ absurd (elim (read-small 20 p (readOf s) refl (ap f (sym (x .1)) ∙ e)) [
-            | inl d ↦ omega (arith, refused-bounds s 20 p d .1)
-            | inr y ↦ own (y .0) .1 (y .2)
-          ])
+          | inl d ↦ omega (arith, refused-bounds s 20 p d .1)
+          | inr y ↦ own (y .0) .1 (y .2)
+        ])
         | inr x ↦ (sym (same-number 20 0 20 p (sym (hands-on 20 0) ∙ ap f (sym (x .1)) ∙ e) .1), x .0)
       ]
 
@@ -90,10 +92,13 @@ module _ {A : Type 0} (refuse : ℕ → ℕ → A) (number place : A → ℕ) (i
     where
       forth : f (askedOf a s) ≡ refuse n p → Askable a × ((q : Question) × (readOf s ≡ good q) × (f (good q) ≡ refuse n p))
       forth e = elim (asked-cases a s) [
-        | inl x ↦ (x .0, elim (read-small n p (readOf s) refl (ap f (sym (x .1)) ∙ e)) [
+        | inl x ↦ (
+          x .0,
+          elim (read-small n p (readOf s) refl (ap f (sym (x .1)) ∙ e)) [
             | inl d ↦ absurd (omega (arith, refused-bounds s n p d .1))
             | inr y ↦ (y .0, y .1, ap f (sym (x .1 ∙ y .1)) ∙ e)
-          ])
+          ],
+        )
         | inr x ↦ absurd (k (sym (same-number 20 0 n p (sym (hands-on 20 0) ∙ ap f (sym (x .1)) ∙ e) .0)))
       ]
 
@@ -129,24 +134,27 @@ write-own a room q = go (leb (length (sheetOf q a)) (length room)) _ _ (apart 10
 
 pub twenty-exactly : TwentyExactly
 unfolding verdictOf writeOf checkOf
-twenty-exactly a s p =
-    (twenty refusal numberIn placeIn (λ n p. refl) (λ n p. refl) (judge a) (λ n p. refl) (verdict-own a) a s p,
-    (λ room. twenty unwritten numberOf placeOf (λ n p. refl) (λ n p. refl) (λ r. writeFor a room r .answer) (λ n p. refl) (write-own a room) a s p),
-    (λ sheet. twenty refusal numberIn placeIn (λ n p. refl) (λ n p. refl) (checkFor a sheet) (λ n p. refl) (check-own a sheet) a s p))
+twenty-exactly a s p = (
+  twenty refusal numberIn placeIn (λ n p. refl) (λ n p. refl) (judge a) (λ n p. refl) (verdict-own a) a s p,
+  (λ room. twenty unwritten numberOf placeOf (λ n p. refl) (λ n p. refl) (λ r. writeFor a room r .answer) (λ n p. refl) (write-own a room) a s p),
+  (λ sheet. twenty refusal numberIn placeIn (λ n p. refl) (λ n p. refl) (checkFor a sheet) (λ n p. refl) (check-own a sheet) a s p),
+)
 
 pub read-exactly : ReadExactly
 unfolding verdictOf writeOf checkOf
-read-exactly a s n p l =
-    (read-first refusal numberIn placeIn (λ n p. refl) (λ n p. refl) (judge a) (λ n p. refl) (verdict-own a) a s n p l,
-    (λ room. read-first unwritten numberOf placeOf (λ n p. refl) (λ n p. refl) (λ r. writeFor a room r .answer) (λ n p. refl) (write-own a room) a s n p l),
-    (λ sheet. read-first refusal numberIn placeIn (λ n p. refl) (λ n p. refl) (checkFor a sheet) (λ n p. refl) (check-own a sheet) a s n p l))
+read-exactly a s n p l = (
+  read-first refusal numberIn placeIn (λ n p. refl) (λ n p. refl) (judge a) (λ n p. refl) (verdict-own a) a s n p l,
+  (λ room. read-first unwritten numberOf placeOf (λ n p. refl) (λ n p. refl) (λ r. writeFor a room r .answer) (λ n p. refl) (write-own a room) a s n p l),
+  (λ sheet. read-first refusal numberIn placeIn (λ n p. refl) (λ n p. refl) (checkFor a sheet) (λ n p. refl) (check-own a sheet) a s n p l),
+)
 
 pub sheet-exactly : SheetExactly
 unfolding checkOf
 sheet-exactly a s sheet n p l h =
-    let x = good-first refusal numberIn placeIn (λ n p. refl) (λ n p. refl) (checkFor a sheet) (λ n p. refl) (check-own a sheet) a s n p l (λ e. omega arith) in
-    ((λ e. let y = x .0 e in (y .0, (y .1 .0, y .1 .1, sheet-refused (y .1 .0) a sheet n p .0 (y .1 .2)))),
-    (λ y. x .1 (y .0, (y .1 .0, y .1 .1, sheet-refused (y .1 .0) a sheet n p .1 (y .1 .2)))))
+    let x = good-first refusal numberIn placeIn (λ n p. refl) (λ n p. refl) (checkFor a sheet) (λ n p. refl) (check-own a sheet) a s n p l (λ e. omega arith) in (
+      (λ e. let y = x .0 e in (y .0, (y .1 .0, y .1 .1, sheet-refused (y .1 .0) a sheet n p .0 (y .1 .2)))),
+      (λ y. x .1 (y .0, (y .1 .0, y .1 .1, sheet-refused (y .1 .0) a sheet n p .1 (y .1 .2)))),
+    )
 
 pub pass-exactly : PassExactly
 unfolding checkOf
@@ -180,6 +188,13 @@ placed-long q a room p = go (leb (length (sheetOf q a)) (length room)) refl _ _ 
 pub too-long-exactly : TooLongExactly
 unfolding writeOf
 too-long-exactly a s room p =
-    let x = good-first unwritten numberOf placeOf (λ n p. refl) (λ n p. refl) (λ r. writeFor a room r .answer) (λ n p. refl) (write-own a room) a s 21 p (omega arith) (λ e. omega arith) in
-    ((λ e. let y = x .0 e in let l = placed-long (y .1 .0) a room p .0 (y .1 .2) in (y .0, (y .1 .0, y .1 .1, l .0, l .1))),
-    (λ h. x .1 (h .0, (h .1 .0, h .1 .1, placed-long (h .1 .0) a room p .1 (h .1 .2, h .1 .3)))))
+    let x = good-first unwritten numberOf placeOf (λ n p. refl) (λ n p. refl) (λ r. writeFor a room r .answer) (λ n p. refl) (write-own a room) a s 21 p (omega arith) (λ e. omega arith) in (
+      (λ e. let y = x .0 e in let l = placed-long (y .1 .0) a room p .0 (y .1 .2) in (y .0, (y .1 .0, y .1 .1, l .0, l .1))),
+      (λ h. x .1 (h .0, (h .1 .0, h .1 .1, placed-long (h .1 .0) a room p .1 (h .1 .2, h .1 .3)))),
+    )
+
+pub first-bytes-answer : FirstBytesAnswer
+unfolding verdictOf writeOf checkOf
+first-bytes-answer a s l =
+    let e : askedOf a s ≡ askedOf a (take (suc longest) s) = ap (λ r. cond (eqb a 1 || eqb a 2) r (bad 20 0)) (first-bytes-tell s l) in
+    (ap (judge a) e, (λ room. ap (writeFor a room) e), (λ sheet. ap (checkFor a sheet) e))

@@ -1,11 +1,12 @@
 -- Each number that says no to a good question or to what was asked, with its place: exactly when. What a question's own fields are refused
 -- for is in page_questions, `Faults`; a sheet's, in `Faults` here.
-use Prim.Native.Nat.{ℕ, _<_}
+use Prim.Native.Nat.{ℕ, suc, _<_}
 use mathlib.Core.Path.{_≡_}
 use mathlib.Core.Logic.{_↔_}
 use mathlib.Core.List.{List}
-use lib.ListN.{length}
+use lib.ListN.{length, take}
 use Rattle.page_meaning.specs.Contents.{Question}
+use Rattle.page_questions.specs.Longest.{longest}
 use Rattle.page_questions.specs.Reader.{good, bad, readOf}
 use Rattle.page_sheets.specs.Answers.{verdictOf, checkOf, unwritten, writeOf}
 use Rattle.page_sheets.specs.Demands.{Askable}
@@ -52,3 +53,12 @@ abbrev pub PassExactly : Type 0
 PassExactly =
     (a : ℕ) (s sheet : List ℕ) (v : Verdict)
     → (checkOf a s sheet ≡ says v) ↔ (Askable a × ((q : Question) × (readOf s ≡ good q) × AllSaid sheet (sheetFields sheet q a) × (verdictIn sheet ≡ v)))
+
+-- ---- FORMAT 3.5: an input longer than a question can be has the answers of its first bytes, one more than the longest has
+
+abbrev pub FirstBytesAnswer : Type 0
+FirstBytesAnswer =
+    (a : ℕ) (s : List ℕ) → longest < length s
+    → (verdictOf a s ≡ verdictOf a (take (suc longest) s))
+    × ((room : List ℕ) → writeOf a s room ≡ writeOf a (take (suc longest) s) room)
+    × ((sheet : List ℕ) → checkOf a s sheet ≡ checkOf a (take (suc longest) s) sheet)
