@@ -13,3 +13,5 @@ pub mod PieceJudges
 pub mod QuestionJudges
 pub mod Refusals
 pub mod Examples
+pub mod Twins
+pub mod Longest

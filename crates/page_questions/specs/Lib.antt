@@ -3,3 +3,4 @@ pub mod Reader
 pub mod Fields
 pub mod Faults
 pub mod Accepted
+pub mod Longest

@@ -1,24 +1,32 @@
 -- The demands, proved.
-use Prim.Native.Nat.{ℕ, _-_, _≤_}
+use Prim.Native.Nat.{ℕ, _-_, _<_}
 use mathlib.Core.Path.{_≡_, refl, sym, ap, _∙_}
 use mathlib.Core.Logic.{inl, inr, _↔_}
 use mathlib.Core.Bool.{Bool, true, false, _||_, cond}
 use mathlib.Core.List.{List, _++_}
 use native.Mathlib.Omega.{arith}
-use lib.ListN.{length, take, replicate, length-append, length-replicate}
+use lib.ListN.{length, getD, take, replicate, length-append, length-replicate}
 use lib.Seq.{take-at}
-use lib.Dec.{T, eqb, leb, le→leb, leb→le}
+use lib.Dec.{eqb, leb, le→leb}
+use borrow.Author.Tests.{leb-true, leb-false}
 use Rattle.page_meaning.specs.Contents.{Question}
-use Rattle.page_formulas.specs.Formulas.{formulas}
+use Rattle.page_meaning.specs.Limits.{mostVertices}
+use Rattle.page_formulas.specs.Formulas.{Formula, formulas, noFormula}
+use Rattle.page_formulas.specs.Program.{Values}
 use Rattle.page_formulas.proofs.Proper.{formulas-proper}
-use Rattle.page_questions.specs.Accepted.{Accepted}
+use Rattle.page_questions.specs.Accepted.{Accepted, Every}
 use Rattle.page_questions.specs.Reader.{good, bad, Read, readOf}
 use Rattle.page_questions.proofs.Accepts.{accepted}
 use Rattle.page_sheets.specs.Answers.{askedOf, judge, verdictOf, checkFor, checkOf, wrote, unwritten, Done, placed, writeFor, writeOf}
-use Rattle.page_sheets.specs.Demands.{Exact, Askable, Meant, IrrelevantExact, ComputableExact, PassYesProves, PassNoBreaks, HasPassingSheet, NeverOpposite, WrittenPasses, Fixed, RoomFixed}
-use Rattle.page_sheets.specs.Sheet.{Verdict, sayYes, sayNo, says, verdictFor, findingOf, sheetOf, checkSheet}
-use Rattle.page_sheets.proofs.Fit.{fit-all, to-true}
+use Rattle.page_sheets.specs.Demands.{Exact, Askable, Meant, IrrelevantExact, ComputableExact, PassYesProves, PassNoBreaks, PassYesBytes, HasPassingSheet, NeverOpposite, WrittenPasses, Fixed, RoomFixed, GreatestLeaf, OpenGreatest}
+use Rattle.page_sheets.specs.Rows.{noBytes}
+use Rattle.page_sheets.specs.Sheet.{lastVertex, Verdict, sayYes, sayNo, says, header, sheetFor, verdictFor, findingOf, sheetOf, checkSheet}
+use Rattle.page_sheets.specs.Trees.{Finding, allShut, firstOpen}
+use Rattle.page_sheets.proofs.Findings.{no-found, found-greatest, opens-at}
+use Rattle.page_sheets.proofs.Fit.{Fit, fit-all, to-true}
+use Rattle.page_sheets.proofs.Entries.{sheet-bytes}
 use Rattle.page_sheets.proofs.Passes.{Shown, passes-show}
+use Rattle.page_sheets.proofs.Refusals.{pass-exactly}
 use Rattle.page_sheets.proofs.Sheets.{sheet-passes, yes-fails, fails-yes, fails-meant, shown-breaks, no-fails}
 
 -- ---- from the bytes to the question
@@ -86,6 +94,16 @@ pass-yes-proves a s sheet e = let r = shown a s sheet sayYes e in (r .0, r .1, f
 pub pass-no-breaks : PassNoBreaks
 pass-no-breaks a s sheet e = let r = shown a s sheet sayNo e in (r .0, r .1, shown-breaks (r .0) (r .2) a sheet (r .3))
 
+pub pass-yes-bytes : PassYesBytes
+pass-yes-bytes a s sheet e =
+    let x = pass-exactly a s sheet sayYes .0 e in
+    let q = x .1 .0 in
+    sheet-bytes q a (small (x .0)) sheet (fit-all (formulas q a) (formulas-proper q (accepted s q (x .1 .1)) a)) (sym (check-is a s sheet q (x .0) (x .1 .1)) ∙ e)
+  where
+    small : Askable a → a < 256
+    small (inl d) = omega (arith, d)
+    small (inr d) = omega (arith, d)
+
 pub has-passing-sheet : HasPassingSheet
 has-passing-sheet a s q h e = (verdictFor (findingOf q a), sheetOf q a, verdict-is a s q h e, check-is a s (sheetOf q a) q h e ∙ sheet-passes q (accepted s q e) a)
 
@@ -121,13 +139,30 @@ written-passes a s q h e room l =
 
 -- ---- demand 1
 pub room-fixed : RoomFixed
-unfolding writeOf
+unfolding writeOf verdictOf
 room-fixed a s room = go (askedOf a s) refl
   where
-    put : (q : Question) → askedOf a s ≡ good q → (b : Bool) → (T b → length (sheetOf q a) ≤ length room) → (d : Done) → d ≡ cond b (record { answer = wrote (verdictFor (findingOf q a)) (length (sheetOf q a)); room = sheetOf q a ++ replicate (length room - length (sheetOf q a)) 0 }) (record { answer = unwritten 21 0; room = replicate (length room) 0 }) → Fixed a s room (d .answer) (d .room) × (length (d .room) ≡ length room)
-    put q e true l d f = rw f ((q, e, refl, refl), simp (length-append, length-replicate) (omega (arith, l tt)))
-    put q e false l d f = rw f (inr (refl, refl, refl), length-replicate (length room) 0)
+    put : (q : Question) → askedOf a s ≡ good q → (b : Bool) → leb (length (sheetOf q a)) (length room) ≡ b → (d : Done) → d ≡ cond b (record { answer = wrote (verdictFor (findingOf q a)) (length (sheetOf q a)); room = sheetOf q a ++ replicate (length room - length (sheetOf q a)) 0 }) (record { answer = unwritten 21 0; room = replicate (length room) 0 }) → Fixed a s room (d .answer) (d .room) × (length (d .room) ≡ length room)
+    put q e true l d f =
+        let fits = leb-true (length (sheetOf q a)) (length room) l in
+        rw f ((q, e, ap (judge a) e, refl, fits, refl), simp (length-append, length-replicate) (omega (arith, fits)))
+    put q e false l d f = rw f (inr (q, e, leb-false (length (sheetOf q a)) (length room) l, refl, refl, refl), length-replicate (length room) 0)
 
     go : (r : Read) → askedOf a s ≡ r → Fixed a s room (writeFor a room r .answer) (writeFor a room r .room) × (length (writeFor a room r .room) ≡ length room)
-    go (good q) e = put q e (leb (length (sheetOf q a)) (length room)) (λ t. leb→le (length (sheetOf q a)) (length room) t) (placed (verdictFor (findingOf q a)) (sheetOf q a) room) refl
+    go (good q) e = put q e (leb (length (sheetOf q a)) (length room)) refl (placed (verdictFor (findingOf q a)) (sheetOf q a) room) refl
     go (bad n o) e = (inl (e, refl), refl)
+
+-- ---- the values of a no sheet
+pub open-greatest : OpenGreatest
+unfolding sheetOf findingOf
+open-greatest a s q h e v = go (findingOf q a) refl (sym (verdict-is a s q h e) ∙ v)
+  where
+    fit-formulas : Every (Fit mostVertices) (formulas q a)
+    fit-formulas = fit-all (formulas q a) (formulas-proper q (accepted s q e) a)
+
+    go : (f : Finding) → findingOf q a ≡ f → says (verdictFor f) ≡ says sayNo
+        → (i : ℕ) × (F : Formula) × (x : Values) × (sheetFor q a f ≡ header a sayNo ++ noBytes q i F x) × (i < length (formulas q a)) × (getD (formulas q a) i noFormula ≡ F) × GreatestLeaf F x
+    go (allShut ts) d k = absurd (let z : _≡_ {A = ℕ} 0 1 = cc in omega arith)
+    go (firstOpen i F x) d k =
+        let o = opens-at (formulas q a) i F x (no-found lastVertex (formulas q a) fit-formulas i F x d) noFormula in
+        (i, F, x, refl, o .0, o .1, found-greatest lastVertex (formulas q a) fit-formulas i F x d)

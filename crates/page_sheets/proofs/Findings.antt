@@ -10,10 +10,12 @@ use Rattle.page_formulas.specs.Formulas.{Formula}
 use Rattle.page_formulas.specs.Program.{Values, truth}
 use Rattle.page_formulas.specs.Vertices.{InRange}
 use Rattle.page_questions.specs.Accepted.{Every}
+use Rattle.page_sheets.specs.Demands.{GreatestLeaf}
 use Rattle.page_sheets.specs.Grow.{Growth, shut, openAt, growTree}
 use Rattle.page_sheets.specs.Tree.{Outcome, andThen, Tree, bytesOf, passed, refused, checkTree}
 use Rattle.page_sheets.specs.Trees.{checkTrees, Finding, allShut, firstOpen, before, writeTrees, bytesAll}
 use Rattle.page_sheets.proofs.Fit.{Fit}
+use Rattle.page_sheets.proofs.Greatest.{open-greatest}
 use Rattle.page_sheets.proofs.Grows.{shut-passes, open-holds, shut-fails}
 use Rattle.page_sheets.proofs.Sound.{sound}
 
@@ -85,6 +87,17 @@ pub all-at : (P : Formula → Type 0) (Fs : List Formula) → Every P Fs → (i 
 all-at P [] a i F h = absurd (omega arith)
 all-at P (E ∷ Fs) a zero F h = a .0
 all-at P (E ∷ Fs) a (suc i) F h = all-at P Fs (a .1) i F (omega arith)
+
+-- the values of a written no are the greatest at a leaf of its formula
+pub found-greatest : (n : ℕ) (Fs : List Formula) → Every (Fit (suc n)) Fs → (i : ℕ) (G : Formula) (x : Values) → writeTrees n Fs ≡ firstOpen i G x → GreatestLeaf G x
+unfolding writeTrees
+found-greatest n [] a i G x e = absurd (let z : _≡_ {A = ℕ} 0 1 = cc in omega arith)
+found-greatest n (F ∷ Fs) a i G x e = go (growTree n F) refl (writeTrees n Fs) (λ j H y k. found-greatest n Fs (a .1) j H y k) e
+  where
+    go : (r : Growth) → growTree n F ≡ r → (v : Finding) → ((j : ℕ) (H : Formula) (y : Values) → v ≡ firstOpen j H y → GreatestLeaf H y) → before F r v ≡ firstOpen i G x → GreatestLeaf G x
+    go (openAt y) d v k e = let same : F ≡ G = cc in let alike : y ≡ x = cc in rw (← same, ← alike) (open-greatest n F (a .0) y d)
+    go (shut t) d (allShut ts) k e = absurd (let z : _≡_ {A = ℕ} 0 1 = cc in omega arith)
+    go (shut t) d (firstOpen j H y) k e = let same : H ≡ G = cc in let alike : y ≡ x = cc in rw (← same, ← alike) (k j H y refl)
 
 -- some formula that holds on values in range, and then not all fail
 pub not-all : (Fs : List Formula) (i : ℕ) (F : Formula) (x : Values) → i < length Fs → InRange (getD Fs i F .ranges) x → truth x (getD Fs i F .program) ≡ true → ¬ Every Fails Fs

@@ -29,3 +29,6 @@ pub mod Twelves
 pub mod Demands
 pub mod FieldRun
 pub mod Numbers
+pub mod Refusals
+pub mod Faults
+pub mod Entries

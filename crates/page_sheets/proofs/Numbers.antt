@@ -148,6 +148,9 @@ sheet-numbered q a s =
     body zero = yes-numbered (formulas q a) s
     body (suc v) = no-numbered q (formulas q a) s
 
+pub sheet-own : (q : Question) (a : ℕ) (s : List ℕ) (n p : ℕ) → checkSheet q a s ≡ refusal n p → Own n
+sheet-own q a s n p e = subst Numbered e (sheet-numbered q a s)
+
 -- ---- any bytes
 
 abbrev pub Given : ℕ → Type 0

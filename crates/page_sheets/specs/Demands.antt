@@ -1,19 +1,24 @@
 -- What the answers are held to: the theorems, as statements. Their proofs stand in proofs/Demands.antt.
-use Prim.Native.Nat.{ℕ, _-_, _≤_}
+use Prim.Native.Nat.{ℕ, _-_, _≤_, _<_}
 use mathlib.Core.Path.{_≡_}
 use mathlib.Core.Logic.{_⊎_, _↔_}
 use mathlib.Core.Bool.{Bool, true, false, cond}
 use mathlib.Core.List.{List, _++_}
 use lib.ListN.{length, getD, take, replicate}
-use lib.Dec.{eqb}
+use lib.Dec.{T, eqb}
+use lib.Signed.{_≤ℤ_}
 use Rattle.page_meaning.specs.Contents.{Question, Contents, left, Irrelevant, Computable}
 use Rattle.page_meaning.specs.Exactly.{Relevant, Uncomputable}
 use Rattle.page_meaning.specs.Witness.{witness, empty}
 use Rattle.page_formulas.specs.Formulas.{Formula, formulas, noFormula}
+use Rattle.page_formulas.specs.Known.{passes, known}
+use Rattle.page_formulas.specs.Program.{Values, places}
+use Rattle.page_formulas.specs.Said.{Agrees}
+use Rattle.page_formulas.specs.Vertices.{InRange, present}
 use Rattle.page_questions.specs.Reader.{good, bad, readOf}
 use Rattle.page_sheets.specs.Answers.{askedOf, verdictOf, checkOf, Written, wrote, unwritten, writeOf}
-use Rattle.page_sheets.specs.Rows.{firstRead, secondRead}
-use Rattle.page_sheets.specs.Sheet.{Verdict, sayYes, sayNo, says, sheetOf}
+use Rattle.page_sheets.specs.Rows.{firstRead, secondRead, noBytes}
+use Rattle.page_sheets.specs.Sheet.{Verdict, sayYes, sayNo, says, header, sheetOf}
 
 -- ---- words of the statements
 
@@ -74,14 +79,39 @@ WrittenPasses =
     (a : ℕ) (s : List ℕ) (q : Question) → Askable a → readOf s ≡ good q → (room : List ℕ) → length (sheetOf q a) ≤ length room
     → (v : Verdict) × (writeOf a s room .answer ≡ wrote v (length (sheetOf q a))) × (verdictOf a s ≡ says v) × (checkOf a s (take (length (sheetOf q a)) (writeOf a s room .room)) ≡ says v)
 
+-- a yes sheet that passes is bytes, each below 256. (A no sheet's values are read as numbers, four entries each, so entries above 255 can
+-- make the same number: what is lent to the routine are bytes by its type.)
+abbrev pub PassYesBytes : Type 0
+PassYesBytes = (a : ℕ) (s sheet : List ℕ) → checkOf a s sheet ≡ says sayYes → (i : ℕ) → getD sheet i 0 < 256
+
 -- ---- demand 1: the room, for each outcome
 
+-- FORMAT 4.5. A sheet was written: it is the question's, its length is told, and the verdict is the one that `verdictOf` gives.
+-- None was: the question or what was asked is refused; or it is 21, the question is good and its sheet is longer than the room
 abbrev pub Fixed : ℕ → List ℕ → List ℕ → Written → List ℕ → Type 0
-Fixed a s room (wrote v n) left = (q : Question) × (askedOf a s ≡ good q) × (n ≡ length (sheetOf q a)) × (left ≡ sheetOf q a ++ replicate (length room - n) 0)
-Fixed a s room (unwritten n o) left = ((askedOf a s ≡ bad n o) × (left ≡ room)) ⊎ ((n ≡ 21) × (o ≡ 0) × (left ≡ replicate (length room) 0))
+Fixed a s room (wrote v n) left = (q : Question) × (askedOf a s ≡ good q) × (verdictOf a s ≡ says v) × (n ≡ length (sheetOf q a)) × (n ≤ length room) × (left ≡ sheetOf q a ++ replicate (length room - n) 0)
+Fixed a s room (unwritten n o) left =
+    ((askedOf a s ≡ bad n o) × (left ≡ room))
+    ⊎ ((q : Question) × (askedOf a s ≡ good q) × (length room < length (sheetOf q a)) × (n ≡ 21) × (o ≡ 0) × (left ≡ replicate (length room) 0))
 
 abbrev pub RoomFixed : Type 0
 RoomFixed = (a : ℕ) (s room : List ℕ) → Fixed a s room (writeOf a s room .answer) (writeOf a s room .room) × (length (writeOf a s room .room) ≡ length room)
+
+-- ---- the values of a no sheet
+
+-- FORMAT 7.2: of the values in range that agree with some decisions by which the formula is true, x is the greatest at every vertex at once
+pub record GreatestLeaf (F : Formula) (x : Values) : Type 0 where
+  pub decisions : List Bool
+  pub true-by : known (F .program) decisions ≡ passes
+  pub in-range : InRange (F .ranges) x
+  pub agrees : Agrees x (places (F .program)) decisions
+  pub most : (y : Values) → InRange (F .ranges) y → Agrees y (places (F .program)) decisions → (v : ℕ) → T (present (F .ranges) v) → y v ≤ℤ x v
+
+-- where the verdict is no, the sheet has the number of a formula and rows with the greatest values at a leaf of it
+abbrev pub OpenGreatest : Type 0
+OpenGreatest =
+    (a : ℕ) (s : List ℕ) (q : Question) → Askable a → readOf s ≡ good q → verdictOf a s ≡ says sayNo
+    → (i : ℕ) × (F : Formula) × (x : Values) × (sheetOf q a ≡ header a sayNo ++ noBytes q i F x) × (i < length (formulas q a)) × (getD (formulas q a) i noFormula ≡ F) × GreatestLeaf F x
 
 -- ---- two results that a statement allows are equal
 

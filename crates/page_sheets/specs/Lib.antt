@@ -8,3 +8,5 @@ pub mod Sheet
 pub mod Answers
 pub mod Demands
 pub mod Twelve
+pub mod Faults
+pub mod Refusals

@@ -1,4 +1,5 @@
--- Writing into a lent room that may be too short: bytes go in one after another while there is room, and the writing goes on past the end.
+-- Writing into a lent room that may be too short: bytes go in one after another while there is room, and the first that finds none is the
+-- last to count.
 use Prim.Native.Nat.{ℕ, _+_}
 use mathlib.Core.Bool.{Bool, true, false, cond}
 use mathlib.Core.List.{List, [], _∷_}

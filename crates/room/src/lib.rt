@@ -1,5 +1,5 @@
-// Bytes put into a lent room one after another. Where it is full the writing goes on, past the end, and nothing more is stored:
-// a later formula may be open, and its sheet may fit.
+// Bytes put into a lent room one after another. Once a byte finds no room nothing more is stored: the sheet is longer than the room,
+// and whoever writes may stop there.
 ghost use Prim.Native.Nat.{_≤_, _-_};
 ghost use mathlib.Core.Path.{_≡_};
 ghost use mathlib.Core.List.{_++_};

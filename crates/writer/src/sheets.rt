@@ -11,7 +11,13 @@ ghost use mathlib.Core.Path.{_≡_};
 ghost use mathlib.Core.List.{List, [], _∷_};
 ghost use Rattle.question.specs.Held.{Held, questionOf};
 ghost use Rattle.page_questions.specs.Accepted.{Accepted};
-ghost use Rattle.page_sheets.specs.Sheet.{findingOf, sheetOf};
+ghost use Prim.Native.Nat.{_<_};
+ghost use lib.ListN.{length};
+ghost use Rattle.page_formulas.specs.Formulas.{formulas};
+ghost use Rattle.formula.specs.Able.{formulaAt};
+ghost use Rattle.page_sheets.specs.Grow.{growTree};
+ghost use Rattle.page_sheets.specs.Sheet.{lastVertex, findingOf, sheetOf};
+ghost use Rattle.writer_trees.specs.Growing.{Grows};
 ghost use Rattle.page_sheets.specs.Tree.{Tree};
 ghost use Rattle.page_sheets.specs.Trees.{allShut, bytesAll};
 ghost use Rattle.room.specs.Room.{filling, puts};
@@ -23,6 +29,15 @@ fn put_header(room: &mut [u8], asked: u8, verdict: u8) -> Spot
 {
     let head = [86u8, 85, 83, 1, 0, asked, verdict];
     put_all(room, Spot { at: 0, over: false }, &head)
+}
+
+// Formula i's tree.
+fn put_tree(room: &mut [u8], spot: Spot, q: Question, asked: u8, i: usize) -> Spot
+    requires { ⌜ Held q × Accepted (questionOf q) × (i < length (formulas (questionOf q) asked)) ⌝ }
+    ensures { λ r. ⌜ Grows (now (room .entry)) spot (growTree lastVertex (formulaAt (formulas (questionOf q) asked) i)) (now (room .exit)) r ⌝ }
+{
+    let f = formula(q, asked, i);
+    plant_formula(room, spot, f)
 }
 
 // Every formula's tree, one after another. Every tree is shut, so a byte that found no room ends the work.
@@ -38,8 +53,7 @@ fn put_trees(room: &mut [u8], spot: Spot, q: Question, asked: u8) -> Spot
         if over {
             return next;
         }
-        let f = formula(q, asked, i);
-        next = plant_formula(room, next, f);
+        next = put_tree(room, next, q, asked, i);
         i += 1;
     }
     next

@@ -7,7 +7,7 @@ use Rattle.checker.proofs.header.from_mark.Tie as tie
 
 returns : tie.Need-returns
 unfolding checkSheet
-returns c = rw (lt-leb _ _ (c .if1 .taken))
+returns c = rw (lt-leb 3 _ (c .if1 .taken))
 
 shared-slice-read-if2 : tie.Need-shared-slice-read-if2
 shared-slice-read-if2 c = search needs

@@ -58,7 +58,8 @@ told : (c : tie.After-formula-tree Inv-loop μ-loop) → let a = c .before .befo
 told c =
     let a = c .before .before .before .before .before .before .before .args in
     let l = c .before .before .before .before .loop in
-    rw (to-the-end (a .sheet .now) (l .at)) at (c .formula-tree .ensures (formulaAt (formulas (questionOf (a .q)) (a .asked)) (l .i)) (l .at) (c .before .before .formula .ensures))
+    let F = formulaAt (formulas (questionOf (a .q)) (a .asked)) (l .i) in
+    subst (λ part. outcomeOf (l .at) part (c .formula-tree .result) ≡ checkTree mostVertices F (l .at) part) (to-the-end (a .sheet .now) (l .at)) (c .formula-tree .ensures F (l .at) (c .before .before .formula .ensures))
 
 -- it ends, or is refused, within the sheet
 within : (c : tie.After-formula-tree Inv-loop μ-loop) (r : Past) → c .formula-tree .result ≡ r → Inside (length (c .before .before .before .before .before .before .before .args .sheet .now) - c .before .before .before .before .loop .at) r

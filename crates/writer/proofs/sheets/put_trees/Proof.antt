@@ -38,13 +38,8 @@ returns c =
 next-there : (c : tie.In-loop Inv-loop μ-loop) → let s = c .before .before .before .before in c .before .loop .i < length (formulas (questionOf (s .args .q)) (s .args .asked))
 next-there c = omega (arith, c .loop-test .taken, c .before .before .formula-count .ensures)
 
-formula-requires : tie.Need-formula-requires Inv-loop μ-loop
-formula-requires c κs = let s = c .before .before .before .before .before in (s .pre .0, s .pre .1, next-there (c .before))
-
-plant-formula-requires : tie.Need-plant-formula-requires Inv-loop μ-loop
-plant-formula-requires c κs =
-    let s = c .before .before .before .before .before .before .before in
-    record { formula = formulaAt (formulas (questionOf (s .args .q)) (s .args .asked)) (c .before .before .before .before .loop .i); is = c .before .formula .ensures; proper = proper-at (questionOf (s .args .q)) (s .pre .1) (s .args .asked) (c .before .before .before .before .loop .i) (next-there (c .before .before .before)) }
+put-tree-requires : tie.Need-put-tree-requires Inv-loop μ-loop
+put-tree-requires c κs = let s = c .before .before .before .before .before .before in (s .pre .0, s .pre .1, next-there (c .before .before))
 
 add-i : tie.Need-add-i Inv-loop μ-loop
 add-i c = search needs
@@ -54,10 +49,10 @@ loop-less c = search needs
 
 loop-again : tie.Need-loop-again Inv-loop μ-loop
 loop-again c =
-    let s = c .before .before .before .before .before .before .before .before .before .before in
-    let l = c .before .before .before .before .before .before .before .loop in
-    let h = next-there (c .before .before .before .before .before .before) in
-    (search needs, search needs, λ ok. sown-more (questionOf (s .args .q)) ok (s .args .asked) (now (s .args .room)) (s .args .spot) (l .i) (l .room) (l .next) (l .inv .2 ok) (s .pre .2 .0) (s .pre .2 .1) h _ (c .before .before .plant-formula .result) (c .before .before .plant-formula .ensures (formulaAt (formulas (questionOf (s .args .q)) (s .args .asked)) (l .i)) (c .before .before .before .before .formula .ensures) (proper-at (questionOf (s .args .q)) ok (s .args .asked) (l .i) h)))
+    let s = c .before .before .before .before .before .before .before .before .before in
+    let l = c .before .before .before .before .before .before .loop in
+    let h = next-there (c .before .before .before .before .before) in
+    (search needs, search needs, λ ok. sown-more (questionOf (s .args .q)) ok (s .args .asked) (now (s .args .room)) (s .args .spot) (l .i) (l .room) (l .next) (l .inv .2 ok) (s .pre .2 .0) (s .pre .2 .1) h _ (c .before .before .put-tree .result) (c .before .before .put-tree .ensures))
 
 same-length-2 : tie.Need-same-length-2 Inv-loop μ-loop
 same-length-2 c = search needs
@@ -78,8 +73,7 @@ put-trees-spec =
     loop-holds
     same-length
     returns
-    formula-requires
-    plant-formula-requires
+    put-tree-requires
     add-i
     loop-less
     loop-again
