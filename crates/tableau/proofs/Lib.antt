@@ -1,11 +1,7 @@
-pub mod Tightens
 pub mod Settles
 pub mod Spreads
-pub mod Stacks
-pub mod Turns
-pub mod Looks
+pub mod Stands
 pub mod Sifts
-pub mod Tables
+pub mod Picks
 pub mod Splits
 pub mod Roots
-pub mod Judges

@@ -16,12 +16,12 @@ use Rattle.program.specs.Built.{mostInstructions}
 use Rattle.program.specs.Compiled.{Ranging, Ranged}
 use Rattle.program.proofs.Ranges.{ranged}
 use Rattle.tableau.specs.Begun.{spread}
-use Rattle.tableau.specs.Closed.{Tight}
+use Rattle.goals.specs.Closed.{Tight}
 use Rattle.page_formulas.specs.Postfix.{valueAt}
-use Rattle.tableau.specs.Nodes.{sizeAt, Tells}
-use Rattle.tableau.specs.Goals.{goal, stackOf, total, held, Opens, Solves, Standing, TrueAt, TrueUnder}
-use Rattle.tableau.specs.declared.types.Tree.{Tree}
-use Rattle.tableau.proofs.Stacks.{stack-none}
+use Rattle.program_tree.specs.Nodes.{sizeAt, Tells}
+use Rattle.goals.specs.Goals.{goal, stackOf, total, held, Opens, Solves, Standing, TrueAt, TrueUnder}
+use Rattle.program_tree.specs.Nodes.{Tree}
+use Rattle.goals.proofs.Stacks.{stack-none}
 use Rattle.tableau.proofs.Splits.{opens-same}
 use Rattle.tableau.proofs.Settles.{settle, truth-settle}
 use Rattle.tableau.proofs.Spreads.{begun-tight, sat-range, range-sat}

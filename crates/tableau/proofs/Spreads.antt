@@ -26,7 +26,7 @@ use Rattle.page_sheets.proofs.Fit.{to-true, to-false}
 use Rattle.program.proofs.Lends.{flagged}
 use Rattle.program.specs.Compiled.{Ranging, Ranged}
 use Rattle.tableau.specs.Begun.{endOf, spread}
-use Rattle.tableau.specs.Closed.{Tight}
+use Rattle.goals.specs.Closed.{Tight}
 use Rattle.tableau.proofs.Settles.{settle}
 
 -- ---- the code's tests

@@ -1,4 +1,3 @@
-pub mod Closed
-pub mod Nodes
-pub mod Goals
 pub mod Begun
+pub mod Stands
+pub mod Choices

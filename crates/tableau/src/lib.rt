@@ -1,12 +1,7 @@
-// The verdict alone: whether a formula is true at some values in range, by the formula's own structure.
+// Whether a formula is true at some values, by the formula's own structure: no tree of it is walked.
 mod beginning;
-mod demanding;
-mod goals;
-pub mod judging;
-mod looking;
-pub mod opening;
-mod placing;
-mod sifting;
-mod solving;
-pub mod treeing;
+mod choice;
+pub mod openings;
+mod search;
+mod sieve;
 pub mod types;

@@ -20,9 +20,9 @@ use Rattle.page_sheets.specs.Grow.{openAt, growTree}
 use Rattle.page_sheets.specs.Sheet.{lastVertex}
 use Rattle.page_sheets.proofs.Fasts.{Same, same-open}
 use Rattle.page_sheets.proofs.NearStart.{start-far}
-use Rattle.tableau.specs.Closed.{Tight}
-use Rattle.tableau.specs.Nodes.{Tells}
-use Rattle.tableau.specs.declared.types.Tree.{Tree}
+use Rattle.goals.specs.Closed.{Tight}
+use Rattle.program_tree.specs.Nodes.{Tells}
+use Rattle.program_tree.specs.Nodes.{Tree}
 use Rattle.writer_trees.specs.Growing.{Placing, fastAt}
 use Rattle.writer_trees.specs.Starting.{NearStarts}
 use Rattle.writer_trees.specs.Descending.{Opening, Descendable, Leaf}

@@ -29,10 +29,10 @@ use Rattle.page_sheets.specs.Grow.{openAt}
 use Rattle.page_sheets.proofs.Fasts.{Same}
 use Rattle.page_sheets.proofs.Descends.{TrueIn}
 use Rattle.grid.specs.Edges.{Fact}
-use Rattle.tableau.specs.Closed.{Tight}
-use Rattle.tableau.specs.Nodes.{Tells}
-use Rattle.tableau.specs.Goals.{Opens, held, TrueUnder}
-use Rattle.tableau.specs.declared.types.Tree.{Tree}
+use Rattle.goals.specs.Closed.{Tight}
+use Rattle.program_tree.specs.Nodes.{Tells}
+use Rattle.goals.specs.Goals.{Opens, held, TrueUnder}
+use Rattle.program_tree.specs.Nodes.{Tree}
 use Rattle.writer_trees.specs.Growing.{decisions, fastAt}
 use Rattle.writer_trees.specs.Descending.{passing, with, Tries, Opening, Descendable}
 use Rattle.writer_trees.proofs.Descents.{Leading, leading-start, leading-true, NotTrue, calm-false, leading-false}
