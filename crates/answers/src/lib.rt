@@ -4,7 +4,7 @@ use checker::header::from_mark;
 use outcome::Judged;
 use outcome::Written;
 use question::types::Answer;
-use tableau::judging::judge;
+use verdicts::verdict::judge;
 use writer::finishing::finish;
 ghost use mathlib.Core.Path.{_≡_};
 ghost use Rattle.page_sheets.specs.Answers.{verdictOf, writeOf, checkOf};

@@ -1,9 +1,5 @@
-pub mod Tightens
-pub mod Stacks
-pub mod Turns
-pub mod Looks
+pub mod Stands
 pub mod Sifts
-pub mod Tables
+pub mod Picks
 pub mod Splits
 pub mod Roots
-pub mod Judges

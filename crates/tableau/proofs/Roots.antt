@@ -18,12 +18,12 @@ use Rattle.program.proofs.Ranges.{ranged}
 use Rattle.page_sheets.proofs.Settles.{settle, truth-settle}
 use Rattle.spreads.specs.Spread.{spread}
 use Rattle.spreads.proofs.Spreads.{begun-least, begun-far, sat-range, range-sat}
-use Rattle.tableau.specs.Closed.{Tight}
+use Rattle.goals.specs.Closed.{Tight}
 use Rattle.page_formulas.specs.Postfix.{valueAt}
-use Rattle.tableau.specs.Nodes.{sizeAt, Tells}
-use Rattle.tableau.specs.Goals.{goal, stackOf, total, held, Opens, Solves, Standing, TrueAt, TrueUnder}
-use Rattle.tableau.specs.declared.types.Tree.{Tree}
-use Rattle.tableau.proofs.Stacks.{stack-none}
+use Rattle.program_tree.specs.Nodes.{sizeAt, Tells}
+use Rattle.goals.specs.Goals.{goal, stackOf, total, held, Opens, Solves, Standing, TrueAt, TrueUnder}
+use Rattle.program_tree.specs.Nodes.{Tree}
+use Rattle.goals.proofs.Stacks.{stack-none}
 use Rattle.tableau.proofs.Splits.{opens-same}
 
 -- under given facts

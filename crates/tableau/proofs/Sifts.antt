@@ -11,15 +11,13 @@ use Rattle.page_walks.specs.Walk.{Sat}
 use Rattle.page_formulas.specs.Program.{Values}
 use Rattle.page_formulas.specs.Known.{Three, fails, passes, open?}
 use Rattle.page_formulas.specs.Said.{Says}
-use Rattle.truth.specs.declared.knowing.Truth.{Truth}
-use Rattle.truth.specs.declared.knowing.Truth.the-variants.{Fails}
-use Rattle.truth.specs.Cells.{threeOf}
-use Rattle.tableau.specs.Nodes.{sizeAt, firstAt, Describes}
-use Rattle.tableau.specs.Goals.{Goal, goal, Met, standOf, total, Waits, Waiting, Solves, Standing, Takes, Sifts, Sees}
-use Rattle.tableau.specs.declared.types.Tree.{Tree}
+use Rattle.program_tree.specs.Nodes.{sizeAt, firstAt, Describes}
+use Rattle.goals.specs.Goals.{Goal, goal, Met, threeBy, total, Waits, Waiting, Solves, Standing, Takes, Sifts, Sees}
+use Rattle.program_tree.specs.Nodes.{Tree}
+use Rattle.tableau.specs.Stands.{standOf}
 use Rattle.tableau.specs.declared.types.Stand.{Stand}
 use Rattle.tableau.specs.declared.types.Stand.the-variants.{Done, Dead, First, Second, Open}
-use Rattle.tableau.proofs.Turns.{smaller, met-on, met-back, leads-self, takes-same}
+use Rattle.goals.proofs.Turns.{smaller, met-on, met-back, leads-self, takes-same}
 
 -- what a stand says of the two truths
 abbrev Stood : Bool → Bool → Bool → Stand → Type 0
@@ -51,7 +49,7 @@ clash a false e f = true≢false (sym f ∙ e)
 
 module _ (t : Tree) where
   -- ---- one goal
-  module _ (near : Grid) (g : Goal) (gs : List Goal) (s : Standing t near (g ∷ gs)) (seen : List Truth) (sees : Sees t near (t .count) seen) where
+  module _ (near : Grid) (g : Goal) (gs : List Goal) (s : Standing t near (g ∷ gs)) (seen : List ℕ) (sees : Sees t near (t .count) seen) where
     abbrev a : ℕ
     a = firstAt t (g .at)
 
@@ -68,13 +66,13 @@ module _ (t : Tree) where
     rest = record { laid = s .laid; table = s .table; tight = s .tight; waiting = s .waiting .1; enough = omega (arith, s .enough) }
 
     abbrev pub known : Stand
-    known = standOf (g .want) (threeOf (getD seen a Fails)) (threeOf (getD seen b Fails))
+    known = standOf (g .want) (threeBy (getD seen a 0)) (threeBy (getD seen b 0))
 
-    pub known-as : (want : Bool) (i j : ℕ) (d : Stand) → want ≡ g .want → i ≡ g .at → j ≡ firstAt t i → d ≡ standOf want (threeOf (getD seen j Fails)) (threeOf (getD seen (i - 1) Fails)) → d ≡ known
-    known-as want i j d e f h k = k ∙ ap (λ m. standOf want (threeOf (getD seen m Fails)) (threeOf (getD seen (i - 1) Fails))) (h ∙ ap (firstAt t) f) ∙ ap (λ m. standOf want (threeOf (getD seen a Fails)) (threeOf (getD seen (m - 1) Fails))) f ∙ ap (λ m. standOf m (threeOf (getD seen a Fails)) (threeOf (getD seen b Fails))) e
+    pub known-as : (want : Bool) (i j : ℕ) (d : Stand) → want ≡ g .want → i ≡ g .at → j ≡ firstAt t i → d ≡ standOf want (threeBy (getD seen j 0)) (threeBy (getD seen (i - 1) 0)) → d ≡ known
+    known-as want i j d e f h k = k ∙ ap (λ m. standOf want (threeBy (getD seen m 0)) (threeBy (getD seen (i - 1) 0))) (h ∙ ap (firstAt t) f) ∙ ap (λ m. standOf want (threeBy (getD seen a 0)) (threeBy (getD seen (m - 1) 0))) f ∙ ap (λ m. standOf m (threeBy (getD seen a 0)) (threeBy (getD seen b 0))) e
 
     stood : (v : Values → ℕ → Bool) → Describes t v → (x : Values) → Sat (weight near) (suc (t .last)) x → (d : Stand) → known ≡ d → Stood (g .want) (v x a) (v x b) d
-    stood v d x h k e = subst (Stood (g .want) (v x a) (v x b)) e (stand-says (g .want) (threeOf (getD seen a Fails)) (threeOf (getD seen b Fails)) (v x a) (v x b) (sees .right v d x h a (omega (arith, less .0, w .in-tree))) (sees .right v d x h b (omega (arith, less .0, w .in-tree))))
+    stood v d x h k e = subst (Stood (g .want) (v x a) (v x b)) e (stand-says (g .want) (threeBy (getD seen a 0)) (threeBy (getD seen b 0)) (v x a) (v x b) (sees .each a (omega (arith, less .0, w .in-tree)) .so v d x h) (sees .each b (omega (arith, less .0, w .in-tree)) .so v d x h))
 
     -- the goal gone, or one operand in its place
     pub sift-done : known ≡ Done → Sifts t near (g ∷ gs) false true near gs
@@ -187,8 +185,8 @@ module _ (t : Tree) where
   }
 
   -- what was seen under fewer facts
-  pub sees-on : (near near′ : Grid) (seen : List Truth) (n : ℕ) → ((x : Values) → Sat (weight near′) (suc (t .last)) x → Sat (weight near) (suc (t .last)) x) → Sees t near n seen → Sees t near′ n seen
-  sees-on near near′ seen n o w = record { right = λ v d x h j l. w .right v d x (o x h) j l }
+  pub sees-on : (near near′ : Grid) (seen : List ℕ) (n : ℕ) → ((x : Values) → Sat (weight near′) (suc (t .last)) x → Sat (weight near) (suc (t .last)) x) → Sees t near n seen → Sees t near′ n seen
+  sees-on near near′ seen n o w = record { each = λ j l. record { so = λ v d x h. w .each j l .so v d x (o x h) } }
 
 -- a round more only where there is less to do
 pub turn-less : (m moved : Bool) (a b : ℕ) → moved ≡ true → (m ≡ true → a < b) → cond m (suc a) 0 < cond moved (suc b) 0

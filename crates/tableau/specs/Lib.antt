@@ -1,3 +1,2 @@
-pub mod Closed
-pub mod Nodes
-pub mod Goals
+pub mod Stands
+pub mod Choices

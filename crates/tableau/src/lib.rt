@@ -1,11 +1,6 @@
-// The verdict alone: whether a formula is true at some values in range, by the formula's own structure.
-mod demanding;
-mod goals;
-pub mod judging;
-mod looking;
-pub mod opening;
-mod placing;
-mod sifting;
-mod solving;
-pub mod treeing;
+// Whether a formula is true at some values, by the formula's own structure: no tree of it is walked.
+mod choice;
+pub mod openings;
+mod search;
+mod sieve;
 pub mod types;

@@ -35,9 +35,9 @@ use Rattle.room.proofs.Puts.{Stand, puts-append, puts-length, puts-fit, puts-pa
 use Rattle.writer_rows.specs.Rows.{Rowed, Alike}
 use Rattle.writer_rows.proofs.ShownFormulas.{rows-there}
 use Rattle.writer_trees.specs.Leaves.{FineOpen, Leaf}
-use Rattle.writer.specs.Finding.{Finds}
+use Rattle.verdicts.specs.Finding.{Finds}
 use Rattle.writer.specs.Laying.{atStart, AllShut, OpenFirst, StandsIf, Lays}
-use Rattle.writer.specs.declared.finding.Found.{Found}
+use Rattle.verdicts.specs.declared.openings.Found.{Found}
 
 -- ---- bytes put from the start
 module _ (mid sheet new : List ℕ) (s : Spot) (e : filling new s ≡ puts (filling mid atStart) sheet) where

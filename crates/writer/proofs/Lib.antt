@@ -1,3 +1,3 @@
 pub mod Lays
 pub mod Places
-pub mod Finds
+pub mod Sowings

@@ -1,10 +1,10 @@
 // A sheet from the start of the room on, as far as it fits. The verdict comes first, so that only that sheet's bytes are worked out.
-use crate::finding::first_open;
 use crate::sheets::put_no;
 use crate::sheets::put_yes;
 use outcome::Verdict;
 use question::types::Question;
 use room::Spot;
+use verdicts::openings::first_open;
 ghost use Rattle.question.specs.Held.{Held, questionOf};
 ghost use Rattle.page_questions.specs.Accepted.{Accepted};
 ghost use Rattle.page_sheets.specs.Sheet.{findingOf};

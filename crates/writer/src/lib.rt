@@ -1,5 +1,4 @@
 // A whole sheet for a question that was read, into a lent room.
-mod finding;
 pub mod finishing;
 mod laying;
 mod sheets;

@@ -17,7 +17,7 @@ ghost use Rattle.page_formulas.specs.Formulas.{formulas};
 ghost use Rattle.formula.specs.Able.{formulaAt};
 ghost use Rattle.page_sheets.specs.Grow.{growTree};
 ghost use Rattle.page_sheets.specs.Sheet.{lastVertex, findingOf, sheetOf};
-ghost use Rattle.writer_trees.specs.Growing.{Grows};
+ghost use Rattle.writer_trees.specs.Trees.{Grows};
 ghost use Rattle.page_sheets.specs.Tree.{Tree};
 ghost use Rattle.page_sheets.specs.Trees.{allShut, bytesAll};
 ghost use Rattle.room.specs.Room.{filling, puts};

@@ -25,8 +25,8 @@ use Rattle.page_sheets.specs.Fast.{strainedNode, cycleOf}
 use Rattle.page_sheets.specs.Tree.{bytesOf, cycle}
 use Rattle.page_sheets.specs.Grow.{Growth, shut, openAt, join}
 use Rattle.room.specs.Room.{Filling, filling, putOne, puts}
-use Rattle.tableau.specs.Closed.{Tight, Closer}
-use Rattle.tableau.proofs.Tightens.{closer-tabled}
+use Rattle.goals.specs.Closed.{Tight, Closer}
+use Rattle.goals.proofs.Tightens.{closer-tabled}
 use Rattle.writer_trees.specs.Trees.{Grows, Ready, cutBytes}
 use Rattle.writer_trees.specs.Leaves.{with}
 use Rattle.grid.specs.Edges.{Fact, Kept}

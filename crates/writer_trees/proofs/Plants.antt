@@ -23,7 +23,7 @@ use Rattle.page_sheets.proofs.Holds.{bounds-start}
 use Rattle.page_sheets.proofs.SameFacts.{OfRanges}
 use Rattle.spreads.specs.Spread.{spread}
 use Rattle.spreads.proofs.Spreads.{begun-ranges}
-use Rattle.tableau.specs.Closed.{Tight}
+use Rattle.goals.specs.Closed.{Tight}
 use Rattle.tableau.proofs.Roots.{begun}
 use Rattle.writer_trees.specs.Trees.{Grows, Placing, Ready, fastAt}
 use Rattle.program.specs.Lent.{Coded}

@@ -17,9 +17,9 @@ use Rattle.page_sheets.specs.Grow.{openAt, growTree}
 use Rattle.page_sheets.specs.Sheet.{lastVertex}
 use Rattle.page_sheets.proofs.Fasts.{Here, UpTo, Same, same-open}
 use Rattle.page_sheets.proofs.Fit.{present-below}
-use Rattle.tableau.specs.Closed.{Tight}
-use Rattle.tableau.specs.Nodes.{Tells}
-use Rattle.tableau.specs.declared.types.Tree.{Tree}
+use Rattle.goals.specs.Closed.{Tight}
+use Rattle.program_tree.specs.Nodes.{Tells}
+use Rattle.program_tree.specs.Nodes.{Tree}
 use Rattle.writer_trees.specs.Trees.{Placing, fastAt}
 use Rattle.writer_trees.specs.Leaves.{Opening, Descendable, Leaf}
 use Rattle.writer_trees.proofs.Plants.{Begun, placing, planted-same}

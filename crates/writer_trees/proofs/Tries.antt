@@ -22,11 +22,11 @@ use Rattle.page_sheets.specs.Grow.{openAt}
 use Rattle.page_sheets.proofs.Fasts.{Same}
 use Rattle.page_sheets.proofs.Descends.{TrueIn}
 use Rattle.grid.specs.Edges.{Fact}
-use Rattle.tableau.specs.Closed.{Tight}
-use Rattle.tableau.proofs.Tightens.{tight-least}
-use Rattle.tableau.specs.Nodes.{Tells}
-use Rattle.tableau.specs.Goals.{Opens, held, TrueUnder}
-use Rattle.tableau.specs.declared.types.Tree.{Tree}
+use Rattle.goals.specs.Closed.{Tight}
+use Rattle.goals.proofs.Tightens.{tight-least}
+use Rattle.program_tree.specs.Nodes.{Tells}
+use Rattle.goals.specs.Goals.{Opens, held, TrueUnder}
+use Rattle.program_tree.specs.Nodes.{Tree}
 use Rattle.writer_trees.specs.Trees.{decisions, fastAt}
 use Rattle.writer_trees.specs.Leaves.{passing, with, Tries, Opening, Descendable}
 use Rattle.writer_trees.proofs.Growths.{with-closer}

@@ -21,10 +21,10 @@ use Rattle.program.specs.Compiled.{Compiled}
 use Rattle.program.specs.declared.types.Formula as compiled
 use Rattle.page_sheets.specs.Grow.{openAt, growTree}
 use Rattle.page_sheets.specs.Sheet.{lastVertex}
-use Rattle.tableau.specs.Closed.{Tight}
-use Rattle.tableau.specs.Nodes.{Tells}
-use Rattle.tableau.specs.Goals.{TrueUnder}
-use Rattle.tableau.specs.declared.types.Tree.{Tree}
+use Rattle.goals.specs.Closed.{Tight}
+use Rattle.program_tree.specs.Nodes.{Tells}
+use Rattle.goals.specs.Goals.{TrueUnder}
+use Rattle.program_tree.specs.Nodes.{Tree}
 use Rattle.grid.specs.Edges.{Fact}
 use Rattle.writer_trees.specs.Trees.{Placing, fastAt}
 

@@ -22,7 +22,7 @@ use Rattle.grid.specs.Edges.{Fact, Kept}
 use Rattle.writer_trees.specs.declared.trees.Edge.{Edge}
 use Rattle.writer_trees.specs.declared.trees.Half.{Half}
 use Rattle.writer_trees.specs.declared.trees.Node.{Node}
-use Rattle.tableau.specs.Closed.{Tight}
+use Rattle.goals.specs.Closed.{Tight}
 
 -- the decisions made so far, from their bytes
 abbrev pub decisions : List ℕ → ℕ → List Bool

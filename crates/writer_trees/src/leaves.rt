@@ -8,10 +8,12 @@ use grid::edge;
 use ints::weights::negation;
 use program::types::Formula;
 use program::types::PLACES;
+use program_tree::nodes::lay;
+use program_tree::types::Extent;
+use program_tree::types::INSTRUCTIONS;
+use program_tree::types::ROW;
 use spreads::begin;
-use tableau::opening::opens_under;
-use tableau::treeing::tree;
-use tableau::types::Tree;
+use tableau::openings::opens_under;
 use truth::knowing::Truth;
 ghost use mathlib.Core.Path.{_≡_};
 ghost use Prim.Native.Nat.{suc, _<_};
@@ -24,7 +26,7 @@ ghost use Rattle.page_formulas.specs.Vertices.{present};
 ghost use Rattle.program.specs.Compiled.{Compiled};
 ghost use Rattle.page_sheets.specs.Grow.{growTree, openAt};
 ghost use Rattle.page_sheets.specs.Sheet.{lastVertex};
-ghost use Rattle.tableau.specs.Nodes.{Tells};
+ghost use Rattle.program_tree.specs.Nodes.{treeOf, Tells};
 ghost use Rattle.writer_trees.specs.Leaves.{passing, Tries, Triable, Opening, Descendable, Leaf, FineOpen};
 
 // Is the formula known to be true?
@@ -39,16 +41,23 @@ fn passes(t: Truth) -> bool
 }
 
 // Is the formula open with one more fact? If so, it is one of the facts now.
-fn opens_with(t: Tree, near: &mut [[i64; VERTICES]; VERTICES], e: Edge) -> bool
-    requires { ⌜ Triable t (now near) (e .from) (e .to) (e .weight) ⌝ }
-    ensures { λ r. ⌜ ((p : Program) → Tells t p → Tries r p (t .last) (now (near .entry)) (e .from) (e .to) (e .weight) (now (near .exit))) ⌝ }
+fn opens_with(
+    nodes: &[[u16; ROW]; INSTRUCTIONS],
+    weights: &[i64; INSTRUCTIONS],
+    ext: Extent,
+    near: &mut [[i64; VERTICES]; VERTICES],
+    e: Edge,
+) -> bool
+    requires { ⌜ Triable (treeOf (now nodes) (now weights) ext) (now near) (e .from) (e .to) (e .weight) ⌝ }
+    ensures { λ r. ⌜ ((p : Program) → Tells (treeOf (now (nodes .entry)) (now (weights .entry)) ext) p → Tries r p (ext .last) (now (near .entry)) (e .from) (e .to) (e .weight) (now (near .exit))) ⌝ }
 {
     let round = edge(near, e.to, e.from);
     if round + e.weight < 0 {
         return false;
     }
-    relax_in(near, t.last + 1, e.from, e.to, e.weight);
-    let r = opens_under(t, *near);
+    relax_in(near, ext.last + 1, e.from, e.to, e.weight);
+    let mut facts = *near;
+    let r = opens_under(nodes, weights, ext, &mut facts);
     r.open
 }
 
@@ -58,11 +67,13 @@ fn descend(
     left: &[u8],
     right: &[u8],
     most: &[i64],
-    t: Tree,
+    nodes: &[[u16; ROW]; INSTRUCTIONS],
+    weights: &[i64; INSTRUCTIONS],
+    ext: Extent,
     root: [[i64; VERTICES]; VERTICES],
 ) -> [i64; VERTICES]
-    requires { ⌜ Descendable (now kinds) (now left) (now right) (now most) t root ⌝ }
-    ensures { λ r. ⌜ ((F : written.Formula) (x : Values) → Opening (now (kinds .entry)) (now (left .entry)) (now (right .entry)) (now (most .entry)) t root F x → Leaf (λ v. v < suc (t .last)) x r) ⌝ }
+    requires { ⌜ Descendable (now kinds) (now left) (now right) (now most) (treeOf (now nodes) (now weights) ext) root ⌝ }
+    ensures { λ r. ⌜ ((F : written.Formula) (x : Values) → Opening (now (kinds .entry)) (now (left .entry)) (now (right .entry)) (now (most .entry)) (treeOf (now (nodes .entry)) (now (weights .entry)) ext) root F x → Leaf (λ v. v < suc (ext .last)) x r) ⌝ }
 {
     let mut near = root;
     let mut truths = [0u8; PLACES];
@@ -77,7 +88,9 @@ fn descend(
         let w = most[i];
         let mut tried = near;
         let open = opens_with(
-            t,
+            nodes,
+            weights,
+            ext,
             &mut tried,
             Edge {
                 from: b,
@@ -91,7 +104,7 @@ fn descend(
             i += 1;
             continue;
         }
-        relax_in(&mut near, t.last + 1, a, b, negation(w));
+        relax_in(&mut near, ext.last + 1, a, b, negation(w));
         truths[i] = 0;
         i += 1;
     }
@@ -109,19 +122,27 @@ pub fn first_leaf(f: Formula) -> [i64; VERTICES]
     let lo = v.lo;
     let hi = v.hi;
     let near = begin(v.count, flags, lo, hi);
-    let t = tree(p, v.count - 1);
     let kinds = p.kinds;
     let left = p.left;
     let right = p.right;
     let most = p.most;
     let n = p.count;
     let few = p.places;
+    let mut nodes = [[0u16; ROW]; INSTRUCTIONS];
+    let mut weights = [0i64; INSTRUCTIONS];
+    lay(&kinds, &left, &right, &most, n, &mut nodes, &mut weights);
+    let ext = Extent {
+        count: n,
+        last: v.count - 1,
+    };
     descend(
         &kinds[..n],
         &left[..few],
         &right[..few],
         &most[..few],
-        t,
+        &nodes,
+        &weights,
+        ext,
         near,
     )
 }

@@ -12,7 +12,7 @@ first-open-requires c κs = search needs
 put-no-requires : tie.Need-put-no-requires
 put-no-requires c κs =
     let s = c .before .before .before .before in
-    (s .pre .0, s .pre .1, is-open (questionOf (s .args .q)) (s .pre .1) (s .args .asked) (c .before .before .first-open .result) (c .before .before .first-open .ensures) (c .before .if1 .taken))
+    (s .pre .0, s .pre .1, is-open (questionOf (s .args .q)) (s .pre .1) (s .args .asked) (c .before .before .first-open .result) (c .before .before .first-open .ensures .0) (c .before .if1 .taken))
 
 same-length : tie.Need-same-length
 same-length c = search needs
@@ -21,13 +21,13 @@ returns : tie.Need-returns
 returns c =
     let s = c .before .before .before .before .before .before .before in
     let q = questionOf (s .args .q) in
-    let o = is-open q (s .pre .1) (s .args .asked) (c .before .before .before .before .before .first-open .result) (c .before .before .before .before .before .first-open .ensures) (c .before .before .before .before .if1 .taken) in
+    let o = is-open q (s .pre .1) (s .args .asked) (c .before .before .before .before .before .first-open .result) (c .before .before .before .before .before .first-open .ensures .0) (c .before .before .before .before .if1 .taken) in
     lays q (s .pre .1) (s .args .asked) No (says-no q (s .pre .1) (s .args .asked) _ o) (now (s .args .room)) _ _ (c .before .before .put-no .ensures)
 
 put-yes-requires : tie.Need-put-yes-requires
 put-yes-requires c κs =
     let s = c .before .before .before .before in
-    (s .pre .0, s .pre .1, is-shut (questionOf (s .args .q)) (s .pre .1) (s .args .asked) (c .before .before .first-open .result) (c .before .before .first-open .ensures) (c .before .if1 .left))
+    (s .pre .0, s .pre .1, is-shut (questionOf (s .args .q)) (s .pre .1) (s .args .asked) (c .before .before .first-open .result) (c .before .before .first-open .ensures .0) (c .before .if1 .left))
 
 same-length-2 : tie.Need-same-length-2
 same-length-2 c = search needs
@@ -36,7 +36,7 @@ returns-2 : tie.Need-returns-2
 returns-2 c =
     let s = c .before .before .before .before .before .before .before in
     let q = questionOf (s .args .q) in
-    let o = is-shut q (s .pre .1) (s .args .asked) (c .before .before .before .before .before .first-open .result) (c .before .before .before .before .before .first-open .ensures) (c .before .before .before .before .if1 .left) in
+    let o = is-shut q (s .pre .1) (s .args .asked) (c .before .before .before .before .before .first-open .result) (c .before .before .before .before .before .first-open .ensures .0) (c .before .before .before .before .if1 .left) in
     lays q (s .pre .1) (s .args .asked) Yes (says-yes q (s .pre .1) (s .args .asked) o) (now (s .args .room)) _ _ (c .before .before .put-yes .ensures)
 
 pub lay-spec : {M : Type 1} → statement M

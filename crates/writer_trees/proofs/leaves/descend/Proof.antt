@@ -16,9 +16,10 @@ use Rattle.page_walks.specs.Sizes.{tabled, Bounded}
 use Rattle.page_walks.specs.Near.{relax, Triangle}
 use Rattle.page_formulas.specs.Kinds.{knownKinds}
 use Rattle.program.specs.Lent.{placeAt}
+use Rattle.program_tree.specs.Nodes.{treeOf}
 use Rattle.page_sheets.specs.Facts.{taken}
 use Rattle.grid.specs.Edges.{Fact}
-use Rattle.tableau.proofs.Tightens.{tight-within}
+use Rattle.goals.proofs.Tightens.{tight-within}
 use Rattle.writer_trees.specs.Trees.{decisions}
 use Rattle.writer_trees.specs.Leaves.{passing}
 use Rattle.writer_trees.proofs.Growths.{fact-bounded, fact-fits}
@@ -29,10 +30,10 @@ use Rattle.writer_trees.proofs.leaves.descend.Statement.{statement}
 use Rattle.writer_trees.proofs.leaves.descend.Tie as tie
 
 abbrev Inv-loop : tie.InvT-loop
-Inv-loop kinds left right most t near₀ truths₀ i₀ near truths i = (i ≤ length most) × (length truths ≡ mostDecisions) × Going kinds left right most t near₀ i near truths
+Inv-loop kinds left right most nodes weights ext near₀ truths₀ i₀ near truths i = (i ≤ length most) × (length truths ≡ mostDecisions) × Going kinds left right most (treeOf nodes weights ext) near₀ i near truths
 
 abbrev μ-loop : tie.MeasureT-loop
-μ-loop kinds left right most t near₀ truths₀ i₀ near truths i = length most - i
+μ-loop kinds left right most nodes weights ext near₀ truths₀ i₀ near truths i = length most - i
 
 loop-holds : tie.Need-loop-holds Inv-loop μ-loop
 loop-holds c = let s = c .before .before .before in (omega arith, refl, going-start _ _ _ _ _ _ (s .pre) _)
@@ -50,7 +51,7 @@ returns : tie.Need-returns Inv-loop μ-loop
 returns c =
     let s = c .before .before .before .before .before .before .before .before .before in
     let l = c .before .before .before .before .before .loop in
-    λ F x o. leading-leaf (s .args .t .last) F _ _ _ _ (o .lent) x (l .i) (l .truths) (l .near) (l .inv .2 .leading F x o) (l .inv .2 .table) (s .pre .places .few) (passing-is (knownKinds (now (s .args .kinds)) (decisions (l .truths) (l .i))) (ap passing (sym (c .before .before .before .known-so-far .ensures)) ∙ sym (c .before .before .passes .ensures) ∙ c .before .if1 .taken))
+    λ F x o. leading-leaf (s .args .ext .last) F _ _ _ _ (o .lent) x (l .i) (l .truths) (l .near) (l .inv .2 .leading F x o) (l .inv .2 .table) (s .pre .places .few) (passing-is (knownKinds (now (s .args .kinds)) (decisions (l .truths) (l .i))) (ap passing (sym (c .before .before .before .known-so-far .ensures)) ∙ sym (c .before .before .passes .ensures) ∙ c .before .if1 .taken))
 
 shared-slice-read-a : tie.Need-shared-slice-read-a Inv-loop μ-loop
 shared-slice-read-a c = let s = c .before .before .before .before .before .before .before .before .before in omega (arith, s .pre .places .as-long .0, c .before .before .before .before .loop-test .taken)
@@ -75,7 +76,7 @@ opens-with-requires c κs =
     let s = c .before .before .before .before .before .before .before .before .before .before .before .before in
     let l = c .before .before .before .before .before .before .before .before .loop in
     let f = s .pre .places .facts (l .i) (c .before .before .before .before .before .before .before .loop-test .taken) true in
-    record { program = s .pre .formula .program; tells = s .pre .opening .tells; table = l .inv .2 .table; tight = l .inv .2 .tight; fact = subst (Fact (s .args .t .last) (getD (now (s .args .right)) (l .i) 0) (getD (now (s .args .left)) (l .i) 0)) (sym (toZ-ofZ {w = w64} (fact-fits (s .args .t .last) _ _ _ f))) f }
+    record { program = s .pre .formula .program; tells = s .pre .opening .tells; table = l .inv .2 .table; tight = l .inv .2 .tight; fact = subst (Fact (s .args .ext .last) (getD (now (s .args .right)) (l .i) 0) (getD (now (s .args .left)) (l .i) 0)) (sym (toZ-ofZ {w = w64} (fact-fits (s .args .ext .last) _ _ _ f))) f }
 
 array-write-truths : tie.Need-array-write-truths Inv-loop μ-loop
 array-write-truths c = let s = c .before .before .before .before .before .before .before .before .before .before .before .before .before .before in omega (arith, s .pre .places .as-long .2, c .before .before .before .before .before .before .before .before .before .loop-test .taken)
@@ -91,7 +92,7 @@ loop-again c =
     let s = c .before .before .before .before .before .before .before .before .before .before .before .before .before .before in
     let l = c .before .before .before .before .before .before .before .before .before .before .loop in
     let f = s .pre .places .facts (l .i) (c .before .before .before .before .before .before .before .before .before .loop-test .taken) true in
-    (omega (arith, c .before .before .before .before .before .before .before .before .before .loop-test .taken), length-set (l .truths) (l .i) 1 ∙ l .inv .1, going-true _ _ _ _ _ _ (s .pre) (l .i) (l .near) (l .truths) (l .inv .2) (c .before .before .before .before .before .before .before .before .before .loop-test .taken) (l .inv .1) (ap passing (sym (c .before .before .before .before .before .before .before .before .known-so-far .ensures)) ∙ sym (c .before .before .before .before .before .before .before .passes .ensures) ∙ c .before .before .before .before .before .before .if1 .left) _ (add-one (l .i)) _ _ _ (toZ-ofZ {w = w64} (fact-fits (s .args .t .last) _ _ _ f)) (c .before .opens-with .ensures) _ (c .if2 .taken) refl)
+    (omega (arith, c .before .before .before .before .before .before .before .before .before .loop-test .taken), length-set (l .truths) (l .i) 1 ∙ l .inv .1, going-true _ _ _ _ _ _ (s .pre) (l .i) (l .near) (l .truths) (l .inv .2) (c .before .before .before .before .before .before .before .before .before .loop-test .taken) (l .inv .1) (ap passing (sym (c .before .before .before .before .before .before .before .before .known-so-far .ensures)) ∙ sym (c .before .before .before .before .before .before .before .passes .ensures) ∙ c .before .before .before .before .before .before .if1 .left) _ (add-one (l .i)) _ _ _ (toZ-ofZ {w = w64} (fact-fits (s .args .ext .last) _ _ _ f)) (c .before .opens-with .ensures) _ (c .if2 .taken) refl)
 
 add-relax-in : tie.Need-add-relax-in Inv-loop μ-loop
 add-relax-in c = let s = c .before .before .before .before .before .before .before .before .before .before .before .before .before .before .before .before in omega (arith, s .pre .places .few)
@@ -104,14 +105,14 @@ weight-is : (c : tie.After-negation Inv-loop μ-loop) → let s = c .before .bef
 weight-is c =
     let s = c .before .before .before .before .before .before .before .before .before .before .before .before .before .before .before .before .before in
     let f = s .pre .places .facts (c .before .before .before .before .before .before .before .before .before .before .before .before .before .loop .i) (c .before .before .before .before .before .before .before .before .before .before .before .before .loop-test .taken) true in
-    toZ-ofZ {w = w64} (record { sfits = c .negation .ok }) ∙ c .negation .ensures ∙ ap (λ z. negℤ z -ℤ pos 1) (toZ-ofZ {w = w64} (fact-fits (s .args .t .last) _ _ _ f))
+    toZ-ofZ {w = w64} (record { sfits = c .negation .ok }) ∙ c .negation .ensures ∙ ap (λ z. negℤ z -ℤ pos 1) (toZ-ofZ {w = w64} (fact-fits (s .args .ext .last) _ _ _ f))
 
 relax-in-requires : tie.Need-relax-in-requires Inv-loop μ-loop
 relax-in-requires c κs =
     let s = c .before .before .before .before .before .before .before .before .before .before .before .before .before .before .before .before .before in
     let l = c .before .before .before .before .before .before .before .before .before .before .before .before .before .loop in
     let f = s .pre .places .facts (l .i) (c .before .before .before .before .before .before .before .before .before .before .before .before .loop-test .taken) false in
-    ((omega (arith, s .pre .places .few), omega (arith, f .from-is), omega (arith, f .to-is), l .inv .2 .table), (subst (Bounded farN) (sym (weight-is c)) (fact-bounded (s .args .t .last) _ _ _ f), (simp add-one (tight-within (suc (s .args .t .last)) (l .near) (l .inv .2 .tight)), subst (λ n. Triangle n (weight (l .near))) (sym (add-one (s .args .t .last))) (l .inv .2 .tight .triangle))))
+    ((omega (arith, s .pre .places .few), omega (arith, f .from-is), omega (arith, f .to-is), l .inv .2 .table), (subst (Bounded farN) (sym (weight-is c)) (fact-bounded (s .args .ext .last) _ _ _ f), (simp add-one (tight-within (suc (s .args .ext .last)) (l .near) (l .inv .2 .tight)), subst (λ n. Triangle n (weight (l .near))) (sym (add-one (s .args .ext .last))) (l .inv .2 .tight .triangle))))
 
 array-write-truths-2 : tie.Need-array-write-truths-2 Inv-loop μ-loop
 array-write-truths-2 c = let s = c .before .before .before .before .before .before .before .before .before .before .before .before .before .before .before .before .before .before in omega (arith, s .pre .places .as-long .2, c .before .before .before .before .before .before .before .before .before .before .before .before .before .loop-test .taken)
@@ -127,7 +128,7 @@ loop-again-2 c =
     let s = c .before .before .before .before .before .before .before .before .before .before .before .before .before .before .before .before .before .before in
     let l = c .before .before .before .before .before .before .before .before .before .before .before .before .before .before .loop in
     let f = s .pre .places .facts (l .i) (c .before .before .before .before .before .before .before .before .before .before .before .before .before .loop-test .taken) true in
-    (omega (arith, c .before .before .before .before .before .before .before .before .before .before .before .before .before .loop-test .taken), length-set (l .truths) (l .i) 0 ∙ l .inv .1, going-false _ _ _ _ _ _ (s .pre) (l .i) (l .near) (l .truths) (l .inv .2) (c .before .before .before .before .before .before .before .before .before .before .before .before .before .loop-test .taken) (l .inv .1) (ap passing (sym (c .before .before .before .before .before .before .before .before .before .before .before .before .known-so-far .ensures)) ∙ sym (c .before .before .before .before .before .before .before .before .before .before .before .passes .ensures) ∙ c .before .before .before .before .before .before .before .before .before .before .if1 .left) _ (add-one (l .i)) _ _ _ (toZ-ofZ {w = w64} (fact-fits (s .args .t .last) _ _ _ f)) (c .before .before .before .before .before .opens-with .ensures) _ (c .before .before .before .before .if2 .left) refl _ (weight-is (c .before)) _ (c .relax-in .ensures ∙ ap (λ m. tabled (relax (weight (l .near)) (getD (now (s .args .left)) (l .i) 0) (getD (now (s .args .right)) (l .i) 0) (toZ w64 (ofZ w64 (c .before .negation .result)))) m (l .near)) (add-one (s .args .t .last))))
+    (omega (arith, c .before .before .before .before .before .before .before .before .before .before .before .before .before .loop-test .taken), length-set (l .truths) (l .i) 0 ∙ l .inv .1, going-false _ _ _ _ _ _ (s .pre) (l .i) (l .near) (l .truths) (l .inv .2) (c .before .before .before .before .before .before .before .before .before .before .before .before .before .loop-test .taken) (l .inv .1) (ap passing (sym (c .before .before .before .before .before .before .before .before .before .before .before .before .known-so-far .ensures)) ∙ sym (c .before .before .before .before .before .before .before .before .before .before .before .passes .ensures) ∙ c .before .before .before .before .before .before .before .before .before .before .if1 .left) _ (add-one (l .i)) _ _ _ (toZ-ofZ {w = w64} (fact-fits (s .args .ext .last) _ _ _ f)) (c .before .before .before .before .before .opens-with .ensures) _ (c .before .before .before .before .if2 .left) refl _ (weight-is (c .before)) _ (c .relax-in .ensures ∙ ap (λ m. tabled (relax (weight (l .near)) (getD (now (s .args .left)) (l .i) 0) (getD (now (s .args .right)) (l .i) 0) (toZ w64 (ofZ w64 (c .before .negation .result)))) m (l .near)) (add-one (s .args .ext .last))))
 
 array-copy-out-result-2 : tie.Need-array-copy-out-result-2 Inv-loop μ-loop
 array-copy-out-result-2 c = search needs
@@ -136,7 +137,7 @@ returns-2 : tie.Need-returns-2 Inv-loop μ-loop
 returns-2 c =
     let s = c .before .before .before .before .before .before in
     let l = c .before .before .loop in
-    λ F x o. leading-end (s .args .t .last) F _ _ _ _ (o .lent) x (l .i) (l .truths) (l .near) (l .inv .2 .leading F x o) (l .inv .2 .table) (s .pre .places .few) (c .before .loop-test .left)
+    λ F x o. leading-end (s .args .ext .last) F _ _ _ _ (o .lent) x (l .i) (l .truths) (l .near) (l .inv .2 .leading F x o) (l .inv .2 .table) (s .pre .places .few) (c .before .loop-test .left)
 
 pub descend-spec : {M : Type 1} → statement M
 descend-spec =

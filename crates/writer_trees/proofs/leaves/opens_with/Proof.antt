@@ -8,11 +8,13 @@ use lib.IntN.{_+ℤ_}
 use mir.Facts.{toZ-ofZ}
 use mir.Syntax.{w64}
 use mir.Val.{SFits, toZ, ofZ}
+use Rattle.page_meaning.specs.Limits.{mostVertices}
 use Rattle.page_walks.specs.Grid.{weight}
-use Rattle.page_walks.specs.Sizes.{tabled}
+use Rattle.page_walks.specs.Sizes.{tabled, Sized}
+use Rattle.page_walks.proofs.Rows.{tabled-sized}
 use Rattle.page_walks.specs.Near.{relax, Triangle}
-use Rattle.tableau.specs.Closed.{Tight}
-use Rattle.tableau.proofs.Tightens.{tight-within, sum-fits, below-zero, from-zero}
+use Rattle.goals.specs.Closed.{Tight}
+use Rattle.goals.proofs.Tightens.{tight-within, sum-fits, below-zero, from-zero}
 use Rattle.writer_trees.specs.Leaves.{with}
 use Rattle.writer_trees.proofs.Growths.{fact-bounded, fact-fits, with-closer}
 use Rattle.writer_trees.proofs.Tries.{answered}
@@ -28,13 +30,13 @@ edge-requires c κs =
 
 -- the edge's weight fits
 weight-fits : (s : tie.Start) → SFits w64 (s .args .e .weight)
-weight-fits s = fact-fits (s .args .t .last) (s .args .e .from) (s .args .e .to) (s .args .e .weight) (s .pre .fact)
+weight-fits s = fact-fits (s .args .ext .last) (s .args .e .from) (s .args .e .to) (s .args .e .weight) (s .pre .fact)
 
 add-if1 : tie.Need-add-if1
 add-if1 c =
     let s = c .before .before .before .before in
     let a = s .args in
-    subst (SFits w64) (sym (ap₂ _+ℤ_ (toZ-ofZ {w = w64} (record { sfits = c .before .before .edge .ok }) ∙ c .before .before .edge .ensures) (toZ-ofZ {w = w64} (weight-fits s)))) (sum-fits (a .t .last) (now (a .near)) (s .pre .tight) (a .e .from) (a .e .to) (a .e .weight) (s .pre .fact) (a .e .to) (s .pre .fact .to-is))
+    subst (SFits w64) (sym (ap₂ _+ℤ_ (toZ-ofZ {w = w64} (record { sfits = c .before .before .edge .ok }) ∙ c .before .before .edge .ensures) (toZ-ofZ {w = w64} (weight-fits s)))) (sum-fits (a .ext .last) (now (a .near)) (s .pre .tight) (a .e .from) (a .e .to) (a .e .weight) (s .pre .fact) (a .e .to) (s .pre .fact .to-is))
 
 -- the sum that tells whether the fact closes a negative cycle
 sum-is : (c : tie.After-struct-told) →
@@ -53,25 +55,26 @@ relax-in-requires c κs =
     let s = c .before .before .before .before .before .before .before .before in
     let a = s .args in
     let q = s .pre in
-    ((omega (arith, q .tells .laid .few), omega (arith, q .fact .from-is), omega (arith, q .fact .to-is), q .table), (simp (toZ-ofZ, weight-fits s) (fact-bounded (a .t .last) (a .e .from) (a .e .to) (a .e .weight) (q .fact)), (simp add-one (tight-within (suc (a .t .last)) (now (a .near)) (q .tight)), subst (λ n. Triangle n (weight (now (a .near)))) (sym (add-one (a .t .last))) (q .tight .triangle))))
+    ((omega (arith, q .tells .laid .few), omega (arith, q .fact .from-is), omega (arith, q .fact .to-is), q .table), (simp (toZ-ofZ, weight-fits s) (fact-bounded (a .ext .last) (a .e .from) (a .e .to) (a .e .weight) (q .fact)), (simp add-one (tight-within (suc (a .ext .last)) (now (a .near)) (q .tight)), subst (λ n. Triangle n (weight (now (a .near)))) (sym (add-one (a .ext .last))) (q .tight .triangle))))
 
 -- the closure with the fact
-with-is : (c : tie.After-relax-in) → let a = c .before .before .before .before .before .before .before .before .before .args in c .relax-in .last .0 ≡ with (a .t .last) (now (a .near)) (a .e .from) (a .e .to) (a .e .weight)
-with-is c = let s = c .before .before .before .before .before .before .before .before .before in c .relax-in .ensures ∙ ap₂ (λ z m. tabled (relax (weight (now (s .args .near))) (s .args .e .from) (s .args .e .to) z) m (now (s .args .near))) (toZ-ofZ {w = w64} (weight-fits s)) (add-one (s .args .t .last))
+with-is : (c : tie.After-relax-in) → let a = c .before .before .before .before .before .before .before .before .before .args in c .relax-in .last .0 ≡ with (a .ext .last) (now (a .near)) (a .e .from) (a .e .to) (a .e .weight)
+with-is c = let s = c .before .before .before .before .before .before .before .before .before in c .relax-in .ensures ∙ ap₂ (λ z m. tabled (relax (weight (now (s .args .near))) (s .args .e .from) (s .args .e .to) z) m (now (s .args .near))) (toZ-ofZ {w = w64} (weight-fits s)) (add-one (s .args .ext .last))
 
 opens-under-requires : tie.Need-opens-under-requires
 opens-under-requires c κs =
-    let s = c .before .before .before .before .before .before .before .before .before .before in
-    let a = s .args in
-    let q = s .pre in
-    ((q .program, q .tells), subst (Tight (suc (a .t .last))) (sym (with-is (c .before))) (with-closer (a .t .last) (q .tells .laid .few) (now (a .near)) (q .table) (q .tight) (a .e .from) (a .e .to) (a .e .weight) (q .fact) (from-zero _ _ (sum-is (c .before .before .before .before .before .before)) (c .before .before .before .before .before .if1 .left)) .tight))
-
-returns-2 : tie.Need-returns-2
-returns-2 c =
     let s = c .before .before .before .before .before .before .before .before .before .before .before in
     let a = s .args in
     let q = s .pre in
-    λ p tells. answered (a .t .last) (now (a .near)) (a .e .from) (a .e .to) (a .e .weight) (c .opens-under .result .«open») (c .opens-under .result .values) p _ (with-is (c .before .before)) (from-zero _ _ (sum-is (c .before .before .before .before .before .before .before)) (c .before .before .before .before .before .before .if1 .left)) (c .opens-under .ensures p tells)
+    let e = with-is (c .before .before) in
+    ((q .program, q .tells), subst (Sized mostVertices) (sym e) (tabled-sized (relax (weight (now (a .near))) (a .e .from) (a .e .to) (a .e .weight)) mostVertices (suc (a .ext .last)) (now (a .near)) (omega (arith, q .tells .laid .few)) (q .table)), subst (Tight (suc (a .ext .last))) (sym e) (with-closer (a .ext .last) (q .tells .laid .few) (now (a .near)) (q .table) (q .tight) (a .e .from) (a .e .to) (a .e .weight) (q .fact) (from-zero _ _ (sum-is (c .before .before .before .before .before .before .before)) (c .before .before .before .before .before .before .if1 .left)) .tight))
+
+returns-2 : tie.Need-returns-2
+returns-2 c =
+    let s = c .before .before .before .before .before .before .before .before .before .before .before .before in
+    let a = s .args in
+    let q = s .pre in
+    λ p tells. answered (a .ext .last) (now (a .near)) (a .e .from) (a .e .to) (a .e .weight) (c .opens-under .result .«open») (c .opens-under .result .values) p _ (with-is (c .before .before .before)) (from-zero _ _ (sum-is (c .before .before .before .before .before .before .before .before)) (c .before .before .before .before .before .before .before .if1 .left)) (c .opens-under .ensures p tells)
 
 pub opens-with-spec : {M : Type 1} → statement M
 opens-with-spec =

@@ -23,7 +23,7 @@ use Rattle.truth.specs.Cells.{threeOf}
 use Rattle.program.specs.Lent.{placeAt}
 use Rattle.page_sheets.specs.Facts.{taken}
 use Rattle.grid.specs.Edges.{Fact}
-use Rattle.tableau.proofs.Tightens.{tight-within}
+use Rattle.goals.proofs.Tightens.{tight-within}
 use Rattle.writer_trees.specs.Trees.{Ready, sideBy}
 use Rattle.writer_trees.specs.declared.trees.Edge.{Edge}
 use Rattle.writer_trees.specs.declared.trees.Half.{Half}

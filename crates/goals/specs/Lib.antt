@@ -1,0 +1,2 @@
+pub mod Closed
+pub mod Goals

@@ -1,0 +1,63 @@
+// Whether a formula is true at some values: in range, or such that meet given facts.
+use crate::search::solve;
+use crate::types::Opened;
+use grid::VERTICES;
+use program::types::Formula;
+use program_tree::nodes::lay;
+use program_tree::types::Extent;
+use program_tree::types::INSTRUCTIONS;
+use program_tree::types::ROW;
+use spreads::begin;
+ghost use Prim.Native.Nat.{suc};
+ghost use Rattle.page_meaning.specs.Limits.{mostVertices};
+ghost use Rattle.page_walks.specs.Sizes.{Sized};
+ghost use Rattle.page_formulas.specs.Program.{Program};
+ghost use Rattle.page_formulas.specs.Formulas as written;
+ghost use Rattle.page_formulas.specs.Proper.{Proper};
+ghost use Rattle.program.specs.Compiled.{Compiled, Fine};
+ghost use Rattle.program_tree.specs.Nodes.{treeOf, Tells};
+ghost use Rattle.goals.specs.Closed.{Tight};
+ghost use Rattle.goals.specs.Goals.{TrueAt, TrueUnder, Opens};
+
+// Of a formula's tree, under the facts of a closure, which the search takes for its own.
+pub fn opens_under(
+    nodes: &[[u16; ROW]; INSTRUCTIONS],
+    most: &[i64; INSTRUCTIONS],
+    ext: Extent,
+    near: &mut [[i64; VERTICES]; VERTICES],
+) -> Opened
+    requires { ⌜ ((p : Program) × Tells (treeOf (now nodes) (now most) ext) p) × Sized mostVertices (now near) × Tight (suc (ext .last)) (now near) ⌝ }
+    ensures { λ r. ⌜ ((p : Program) → Tells (treeOf (now (nodes .entry)) (now (most .entry)) ext) p → Opens (r .open) (r .values) (TrueUnder p (ext .last) (now (near .entry)))) ⌝ }
+{
+    let mut waiting = [0u16; INSTRUCTIONS];
+    solve(nodes, most, ext, near, &mut waiting, 0, ext.count - 1, true)
+}
+
+// Of a compiled formula, under the facts of its ranges.
+pub fn formula_opens(f: Formula) -> Opened
+    requires { ⌜ Fine f ⌝ }
+    ensures { λ r. ⌜ ((F : written.Formula) → Compiled f F → Proper F → Opens (r .open) (r .values) (TrueAt F)) ⌝ }
+{
+    let p = f.program;
+    let v = f.vertices;
+    let flags = v.present;
+    let lo = v.lo;
+    let hi = v.hi;
+    let mut near = begin(v.count, flags, lo, hi);
+    let mut nodes = [[0u16; ROW]; INSTRUCTIONS];
+    let mut most = [0i64; INSTRUCTIONS];
+    lay(
+        &p.kinds,
+        &p.left,
+        &p.right,
+        &p.most,
+        p.count,
+        &mut nodes,
+        &mut most,
+    );
+    let ext = Extent {
+        count: p.count,
+        last: v.count - 1,
+    };
+    opens_under(&nodes, &most, ext, &mut near)
+}

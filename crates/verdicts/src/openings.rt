@@ -1,0 +1,43 @@
+// The first formula that is open.
+use formula::formulas::formula;
+use formula::formulas::formula_count;
+use grid::VERTICES;
+use question::types::Question;
+use tableau::openings::formula_opens;
+ghost use Rattle.question.specs.Held.{Held, questionOf};
+ghost use Rattle.page_questions.specs.Accepted.{Accepted};
+ghost use Rattle.page_sheets.specs.Sheet.{findingOf};
+ghost use Rattle.verdicts.specs.Finding.{Finds, Shown};
+
+// Is a formula open? If so, the first one's number, and values in range at which it is true.
+pub struct Found {
+    pub open: bool,
+    pub number: usize,
+    pub values: [i64; VERTICES],
+}
+
+pub fn first_open(q: Question, asked: u8) -> Found
+    requires { ⌜ Held q × Accepted (questionOf q) ⌝ }
+    ensures { λ r. ⌜ Finds (findingOf (questionOf q) asked) r × Shown (questionOf q) asked r ⌝ }
+{
+    let n = formula_count(q, asked);
+    let mut i: usize = 0;
+    while i < n {
+        let f = formula(q, asked, i);
+        let r = formula_opens(f);
+        if r.open {
+            let values = r.values;
+            return Found {
+                open: true,
+                number: i,
+                values,
+            };
+        }
+        i += 1;
+    }
+    Found {
+        open: false,
+        number: n,
+        values: [0i64; VERTICES],
+    }
+}
