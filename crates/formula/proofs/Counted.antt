@@ -16,7 +16,7 @@ use Rattle.question.specs.Held.{rowOf, rangesOf, widthsOf, questionOf}
 use Rattle.question.specs.declared.types.Question.{Question}
 use Rattle.question.specs.declared.types.Verb.the-variants.{Insert, Delete, Modify}
 use Rattle.page_formulas.specs.Formulas as F
-use Rattle.formula.specs.Able.{Able, Widths, deed, settledModes}
+use Rattle.formula.specs.Able.{Able, Widths, deed, settledModes, C}
 use Rattle.formula.proofs.Numbered.{by, by-delete, by-modify}
 
 tables-length : (ws : List ℕ) (gs : List Range) → length (tablesOf ws gs) ≡ length ws
@@ -40,7 +40,7 @@ newRows q = map (rowOf (q .shape .width)) (take (q .change .count) (q .change .r
 module _ (q : Question) (a : Able q) (w : Widths q) where
   listed-length : length (F.irrelevance (questionOf q) (M.insert (newRows q))) ≡ q .change .count
   listed-length =
-      length-map (newRows q) (λ n. F.oneRow (questionOf q) (F.C (questionOf q) (F.after (questionOf q) (map M.become n) F.firstSight)))
+      length-map (newRows q) (λ n. F.oneRow (questionOf q) (C (questionOf q) (F.after (questionOf q) (map M.become n) F.firstSight)))
       ∙ length-map (take (q .change .count) (q .change .rows)) (rowOf (q .shape .width))
       ∙ length-take-le (q .change .count) (q .change .rows) (omega (arith, a .rows, a .whole .held .change .fewRows))
 

@@ -17,7 +17,7 @@ use Rattle.question.specs.declared.types.Question.{Question}
 use Rattle.question.specs.declared.types.Verb.{Verb}
 use Rattle.question.specs.declared.types.Verb.the-variants.{Insert, Delete, Modify}
 use Rattle.page_formulas.specs.Formulas as F
-use Rattle.formula.specs.Able.{Able, deed, settledModes, askedOf}
+use Rattle.formula.specs.Able.{Able, deed, settledModes, askedOf, C}
 
 pub change-is : (q : Question) → questionOf q .change ≡ changeOf (q .shape .width) (q .change)
 unfolding questionOf questionFrom
@@ -60,4 +60,4 @@ by-insert q asked i e h = let d = by q asked Insert e in d ∙ go (eqb asked 1) 
 pub row-number : (q : Question) (asked i : ℕ) → Able q → q .change .verb ≡ Insert → i < length (F.formulas (questionOf q) asked) → i < q .change .count
 row-number q asked i a e h =
     let rs = take (q .change .count) (q .change .rows) in
-    omega (arith, ap length (by-insert q asked i e h), length-map (map (rowOf (q .shape .width)) rs) (λ n. F.oneRow (questionOf q) (F.C (questionOf q) (F.after (questionOf q) (map M.become n) F.firstSight))), length-map rs (rowOf (q .shape .width)), length-take-le (q .change .count) (q .change .rows) (omega (arith, a .rows, a .whole .held .change .fewRows)))
+    omega (arith, ap length (by-insert q asked i e h), length-map (map (rowOf (q .shape .width)) rs) (λ n. F.oneRow (questionOf q) (C (questionOf q) (F.after (questionOf q) (map M.become n) F.firstSight))), length-map rs (rowOf (q .shape .width)), length-take-le (q .change .count) (q .change .rows) (omega (arith, a .rows, a .whole .held .change .fewRows)))

@@ -16,7 +16,7 @@ use Rattle.question.specs.declared.types.Setting.{Setting}
 use Rattle.question.specs.declared.types.Mode.the-variants.{Become}
 use Rattle.page_formulas.specs.Formulas as F
 use Rattle.page_formulas.specs.Formulas.{noFormula}
-use Rattle.formula.specs.Able.{Becomes, Able, formulaAt}
+use Rattle.formula.specs.Able.{Becomes, Able, formulaAt, C}
 
 -- the first j are put in
 pub record Putting (vs : List ℤ) (ss : List Setting) (j : ℕ) : Type 0 where
@@ -72,9 +72,9 @@ map-at f (x ∷ l) (suc i) d e h = map-at f l i d e (omega arith)
 abbrev pub noRow : Row
 noRow = record { values = [] }
 
-pub row-formula : (q : Question) (i : ℕ) → Able q → i < q .change .count → formulaAt (F.irrelevance (questionOf q) (insert (map (H.rowOf (q .shape .width)) (take (q .change .count) (q .change .rows))))) i ≡ F.oneRow (questionOf q) (F.C (questionOf q) (F.after (questionOf q) (map become (H.rowOf (q .shape .width) (getD (q .change .rows) i noRow))) F.firstSight))
+pub row-formula : (q : Question) (i : ℕ) → Able q → i < q .change .count → formulaAt (F.irrelevance (questionOf q) (insert (map (H.rowOf (q .shape .width)) (take (q .change .count) (q .change .rows))))) i ≡ F.oneRow (questionOf q) (C (questionOf q) (F.after (questionOf q) (map become (H.rowOf (q .shape .width) (getD (q .change .rows) i noRow))) F.firstSight))
 row-formula q i a h =
     let n : length (take (q .change .count) (q .change .rows)) ≡ q .change .count = length-take-le (q .change .count) (q .change .rows) (omega (arith, a .rows, a .whole .held .change .fewRows)) in
-    let f : List ℤ → F.Formula = λ ns. F.oneRow (questionOf q) (F.C (questionOf q) (F.after (questionOf q) (map become ns) F.firstSight)) in
+    let f : List ℤ → F.Formula = λ ns. F.oneRow (questionOf q) (C (questionOf q) (F.after (questionOf q) (map become ns) F.firstSight)) in
     map-at f (map (H.rowOf (q .shape .width)) (take (q .change .count) (q .change .rows))) i (H.rowOf (q .shape .width) noRow) noFormula (omega (arith, length-map (take (q .change .count) (q .change .rows)) (H.rowOf (q .shape .width))))
     ∙ ap f (map-at (H.rowOf (q .shape .width)) (take (q .change .count) (q .change .rows)) i noRow _ (omega arith) ∙ ap (H.rowOf (q .shape .width)) (getD-take (q .change .count) (q .change .rows) i noRow h))

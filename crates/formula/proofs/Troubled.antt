@@ -12,7 +12,8 @@ use Rattle.page_formulas.specs.Formulas as F
 use Rattle.program.specs.Built.{Room, Builds, Means}
 use Rattle.sights.specs.Seen.{rowSight, modesOf, sightOf}
 use Rattle.program.specs.Compiled.{Compiled}
-use Rattle.formula.specs.Able.{deed}
+use Rattle.formula.specs.Able.{deed, C}
+use Rattle.page_meaning.specs.Claims.{staying, claims}
 use Rattle.program.specs.declared.types.Program.{Program}
 use Rattle.program.specs.declared.types.Formula.{Formula}
 use Rattle.program.specs.declared.types.Sight.{Sight}
@@ -34,22 +35,22 @@ enough n m k l a = record { instructions = omega (arith, a .instructions); place
 
 module _ (q : Question) (s : Sight) where
   abbrev pub before : P.Program
-  before = F.C (questionOf q) (rowSight (questionOf q) (s .second))
+  before = C (questionOf q) (rowSight (questionOf q) (s .second))
 
   abbrev pub after : P.Program
-  after = F.C (questionOf q) (F.after (questionOf q) (modesOf q s) (rowSight (questionOf q) (s .second)))
+  after = C (questionOf q) (F.after (questionOf q) (modesOf q s) (rowSight (questionOf q) (s .second)))
 
   abbrev pub chosen : P.Program
   chosen = conditionProgram (rowSight (questionOf q) (s .second)) (deed q)
 
   abbrev pub moves : P.Program
-  moves = F.moves (questionOf q) (deed q) (modesOf q s) (rowSight (questionOf q) (s .second))
+  moves = F.programs (questionOf q) (deed q) (modesOf q s) .M (rowSight (questionOf q) (s .second))
 
   abbrev pub stays : P.Program
-  stays = F.S (questionOf q) (deed q) (modesOf q s) (rowSight (questionOf q) (s .second))
+  stays = claims (F.programs (questionOf q) (deed q) (modesOf q s)) (rowSight (questionOf q)) staying (s .second)
 
   abbrev pub differs : Sight → P.Program
-  differs t = F.differs (questionOf q) (modesOf q s) (sightOf q s) (sightOf q t)
+  differs t = F.programs (questionOf q) [] (modesOf q s) .differ (sightOf q s) (sightOf q t)
 
 -- ---- whole formulas, built from nothing
 

@@ -18,6 +18,9 @@ use Rattle.question.specs.declared.types.Setting.{Setting}
 use Rattle.question.specs.declared.types.Row.{Row}
 use Rattle.question.specs.declared.types.Verb.{Verb}
 use Rattle.question.specs.declared.types.Verb.the-variants.{Insert, Delete, Modify}
+use Rattle.page_formulas.specs.Compile as P
+use Rattle.page_formulas.specs.Parts.{joined, conditionProgram}
+use Rattle.page_formulas.specs.Program.{Program, andI}
 use Rattle.page_formulas.specs.Formulas as F
 use Rattle.page_formulas.specs.Formulas.{noFormula}
 use Rattle.sights.specs.Seen.{There, Whole, Usable, modesOf}
@@ -82,6 +85,14 @@ Buildable Modify q = Modifies q
 -- the formulas of a change, as asked
 abbrev pub askedOf : ℕ → M'.Question → M'.Change → List F.Formula
 askedOf asked q ch = cond (eqb asked 1) (F.irrelevance q ch) (F.computability q ch)
+
+-- the list's condition, and two parts joined
+abbrev pub C : M'.Question → P.Sight → Program
+C q σ = conditionProgram σ (q .condition)
+
+infixl 35 _and_
+abbrev pub _and_ : Program → Program → Program
+p and r = joined andI p r
 
 -- a width for each table
 abbrev pub Widths : Question → Type 0

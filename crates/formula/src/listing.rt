@@ -18,14 +18,15 @@ ghost use mathlib.Core.List.{[], _∷_, _++_};
 ghost use Rattle.question.specs.Held.{conditionOf, questionOf};
 ghost use Rattle.page_formulas.specs.Program.{andI};
 ghost use Rattle.page_formulas.specs.Program as written;
-ghost use Rattle.page_formulas.specs.Parts.{_and_, conditionProgram};
-ghost use Rattle.page_formulas.specs.Formulas.{C, after, oneRow, twoRows};
+ghost use Rattle.page_meaning.specs.Claims.{staying, claims};
+ghost use Rattle.page_formulas.specs.Parts.{conditionProgram};
+ghost use Rattle.page_formulas.specs.Formulas.{after, oneRow, twoRows};
 ghost use Rattle.page_formulas.specs.Formulas as trouble;
 ghost use Rattle.program.specs.Built.{Room, Builds, Means};
 ghost use Rattle.sights.specs.Seen.{rowSight, modesOf, Whole, Usable};
 ghost use Rattle.sights.specs.Partway.{Ready};
 ghost use Rattle.program.specs.Compiled.{Compiled};
-ghost use Rattle.formula.specs.Able.{Able, Chooses, Modifies, Views, deed};
+ghost use Rattle.formula.specs.Able.{Able, Chooses, Modifies, Views, deed, C, _and_};
 
 // A row as it is.
 pub fn unmoved(q: Question, second: bool) -> Sight
@@ -118,7 +119,7 @@ pub fn and_relisted(p: Program, q: Question, s: Sight) -> Program
 // M
 pub fn changing(p: Program, q: Question, s: Sight) -> Program
     requires { ⌜ Room p 66 28 × Usable q s × (s .moved ≡ true) × Modifies q ⌝ }
-    ensures { λ r. ⌜ Builds p r 66 28 (trouble.moves (questionOf q) (deed q) (modesOf q s) (rowSight (questionOf q) (s .second))) ⌝ }
+    ensures { λ r. ⌜ Builds p r 66 28 (trouble.programs (questionOf q) (deed q) (modesOf q s) .M (rowSight (questionOf q) (s .second))) ⌝ }
 {
     let change = q.change;
     let d = change.condition;
@@ -128,7 +129,7 @@ pub fn changing(p: Program, q: Question, s: Sight) -> Program
 // S
 pub fn staying(p: Program, q: Question, s: Sight) -> Program
     requires { ⌜ Room p 102 40 × Usable q s × (s .moved ≡ true) × Modifies q ⌝ }
-    ensures { λ r. ⌜ Builds p r 102 40 (trouble.S (questionOf q) (deed q) (modesOf q s) (rowSight (questionOf q) (s .second))) ⌝ }
+    ensures { λ r. ⌜ Builds p r 102 40 (claims (trouble.programs (questionOf q) (deed q) (modesOf q s)) (rowSight (questionOf q)) staying (s .second)) ⌝ }
 {
     let change = q.change;
     let d = change.condition;

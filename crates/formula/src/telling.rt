@@ -11,6 +11,7 @@ use sights::seeing::mode_at;
 use sights::seeing::term_at;
 ghost use mathlib.Core.Path.{_≡_};
 ghost use mathlib.Core.Bool.{true};
+ghost use mathlib.Core.List.{[]};
 ghost use Rattle.page_meaning.specs.Claims.{modeAt};
 ghost use Rattle.question.specs.Held.{questionOf};
 ghost use Rattle.page_formulas.specs.Formulas.{differsOver};
@@ -55,7 +56,7 @@ pub fn differs_all(p: Program, q: Question, a: Sight, b: Sight) -> Program
 
 pub fn differs(p: Program, q: Question, a: Sight, b: Sight) -> Program
     requires { ⌜ Room p 41 16 × Usable q a × Usable q b × (a .moved ≡ true) ⌝ }
-    ensures { λ r. ⌜ Builds p r 41 16 (trouble.differs (questionOf q) (modesOf q a) (sightOf q a) (sightOf q b)) ⌝ }
+    ensures { λ r. ⌜ Builds p r 41 16 (trouble.programs (questionOf q) [] (modesOf q a) .differ (sightOf q a) (sightOf q b)) ⌝ }
 {
     let one = emit(p, Joint::False);
     differs_all(one, q, a, b)

@@ -3,6 +3,7 @@ pub mod Pieces
 pub mod Knows
 pub mod Usable
 pub mod Readings
+pub mod Rooms
 pub mod Sights
 pub mod Agreement
 pub mod Rows

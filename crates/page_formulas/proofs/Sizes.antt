@@ -18,7 +18,7 @@ use Rattle.page_questions.specs.Reader.{counted}
 use Rattle.page_questions.specs.Accepted.{Every, RangeOk, ConstantOk, SideOk, TokenOk, ConditionOk, ModeOk}
 use Rattle.page_formulas.specs.Program.{Term, Place, Instr, place, andI, orI, notI, trueI, falseI, Program, places}
 use Rattle.page_formulas.specs.Compile.{Sight, atMostPlace, belowPlace, comparison, constantTerm, plus, sideTerm, compile}
-use Rattle.page_formulas.specs.Parts.{_and_, _or_, denied, conditionProgram}
+use Rattle.page_formulas.specs.Parts.{joined, denied, conditionProgram}
 use Rattle.page_formulas.specs.Vertices.{Ranges, present}
 use Rattle.page_formulas.specs.Formulas.{bounded, boundedAll, differsNew, differsOver}
 use Rattle.page_formulas.specs.Costs.{conditionCost}
@@ -68,17 +68,8 @@ module _ (rs : Ranges) where
   unfolding places
   size-place p h = record { small = (h, tt); few = omega arith; short = omega arith }
 
-  -- two parts, then what joins them
-  size-two : {p r : Program} {n m k l : ℕ} (i : Instr) → places (i ∷ []) ≡ [] → Sized rs p n m → Sized rs r k l → Sized rs (p ++ (r ++ (i ∷ []))) (n + k) (m + (l + 1))
-  size-two {p} {r} {n} {m} {k} {l} i e x y = size-most (n + k) (m + (l + 1)) (size-append p (r ++ (i ∷ [])) x (size-append r (i ∷ []) y (size-join i e))) (omega arith) (omega arith)
-
-  pub size-and : {p r : Program} {n m k l : ℕ} → Sized rs p n m → Sized rs r k l → Sized rs (p and r) (n + k) (m + (l + 1))
-  unfolding places
-  size-and = size-two andI refl
-
-  pub size-or : {p r : Program} {n m k l : ℕ} → Sized rs p n m → Sized rs r k l → Sized rs (p or r) (n + k) (m + (l + 1))
-  unfolding places
-  size-or = size-two orI refl
+  pub size-joined : (i : Instr) → places (i ∷ []) ≡ [] → {p r : Program} {n m k l : ℕ} → Sized rs p n m → Sized rs r k l → Sized rs (joined i p r) (n + k) (m + (l + 1))
+  size-joined i e {p} {r} {n} {m} {k} {l} x y = size-most (n + k) (m + (l + 1)) (size-append p (r ++ (i ∷ [])) x (size-append r (i ∷ []) y (size-join i e))) (omega arith) (omega arith)
 
   pub size-not : {p : Program} {n m : ℕ} → Sized rs p n m → Sized rs (denied p) n (m + 1)
   unfolding places

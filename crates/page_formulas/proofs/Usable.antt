@@ -1,13 +1,12 @@
 -- What the laws of formulas ask of a question: its columns exist and its conditions leave one truth. An accepted one is usable.
 use Prim.Native.Nat.{ℕ, zero, suc, _<_}
-use mathlib.Core.List.{List, [], _∷_, _++_}
+use mathlib.Core.List.{List, [], _∷_, _++_, map}
 use native.Mathlib.Omega.{arith}
 use lib.ListN.{length, getD, replicate, length-append}
 use Rattle.page_meaning.specs.Condition.{Condition, Token, compare, both, either, negate, Side, constant, column}
 use Rattle.page_meaning.specs.Contents.{Question, Change, insert, delete, modify, Mode, keep, become, shift, Values, _∈_, columns, columnsOf}
-use Rattle.page_meaning.specs.Claims.{Deed, putting}
 use Rattle.page_meaning.specs.WellFormed.{Mine, SideUses, TokenUses, Uses, Reads, ChangeOk}
-pub use Rattle.page_meaning.proofs.Moving.{reads-become}
+use Rattle.page_meaning.proofs.Moving.{reads-become}
 use Rattle.page_questions.specs.Accepted.{Every, Shaped, ChangeAccepted, Ascending, Accepted}
 
 abbrev pub Exists : Question → ℕ → Type 0
@@ -18,17 +17,17 @@ ChangeUsable q (insert new) = Unit {0}
 ChangeUsable q (delete d) = Uses (Exists q) d × Shaped d
 ChangeUsable q (modify d ms) = Uses (Exists q) d × Shaped d × Reads (Exists q) ms
 
--- P holds of each deed of a change
-abbrev pub Deeds : (Deed → Type 0) → Change → Type 0
-Deeds P (insert new) = (n : Values) → n ∈ new → P (putting n)
-Deeds P (delete d) = P (record { condition = d; modes = [] })
-Deeds P (modify d ms) = P (record { condition = d; modes = ms })
+-- P holds of each condition with its modes that the change's formulas are read under
+abbrev pub Deeds : (Condition → List Mode → Type 0) → Change → Type 0
+Deeds P (insert new) = (n : Values) → n ∈ new → P [] (map become n)
+Deeds P (delete d) = P d []
+Deeds P (modify d ms) = P d ms
 
--- a deed's columns exist, and its condition leaves one truth
-pub record Doable (q : Question) (d : Deed) : Type 0 where
-  pub uses : Uses (Exists q) (d .condition)
-  pub shaped : Shaped (d .condition)
-  pub reads : Reads (Exists q) (d .modes)
+-- their columns exist, and the condition leaves one truth
+pub record Doable (q : Question) (d : Condition) (ms : List Mode) : Type 0 where
+  pub uses : Uses (Exists q) d
+  pub shaped : Shaped d
+  pub reads : Reads (Exists q) ms
 
 pub record Usable (q : Question) : Type 0 where
   pub uses : Uses (Exists q) (q .condition)

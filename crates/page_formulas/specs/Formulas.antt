@@ -1,6 +1,6 @@
 -- The trouble lists as programs over vertices (FORMAT 5).
 use Prim.Native.Nat.{ℕ, zero, suc, _+_}
-use mathlib.Core.Bool.{Bool, true, false, _&&_, _||_, cond}
+use mathlib.Core.Bool.{Bool, true, false, _||_, cond}
 use mathlib.Core.Option.{none, some}
 use mathlib.Core.List.{List, [], _∷_, _++_, map}
 use lib.ListN.{length, take, drop}
@@ -9,10 +9,10 @@ use lib.IntN.{ℤ, pos}
 use Rattle.page_meaning.specs.Condition.{Condition, atMost, atLeast, unequal}
 use Rattle.page_meaning.specs.Contents.{Question, Change, Mode, keep, become, shift, Range, Table, columns, look, first}
 use Rattle.page_meaning.specs.Contents as M
-use Rattle.page_meaning.specs.Claims.{Claim, listed, relisted, chosen, moving, staying, differing, Line, Deed, modeAt, kept, Reading, readParts, formulasBy}
-use Rattle.page_formulas.specs.Program.{Program, Term, Values, andI, orI, trueI, falseI}
+use Rattle.page_meaning.specs.Claims.{Line, single, double, modeAt, kept, Reading, readParts, formulasBy}
+use Rattle.page_formulas.specs.Program.{Program, Term, Values, andI, orI, falseI}
 use Rattle.page_formulas.specs.Compile.{Sight, comparison, constantTerm, plus}
-use Rattle.page_formulas.specs.Parts.{_and_, _or_, denied, conditionProgram}
+use Rattle.page_formulas.specs.Parts.{joined, denied, conditionProgram}
 use Rattle.page_formulas.specs.Vertices.{Ranges}
 
 -- its vertices' ranges; whether it speaks of two rows; its program
@@ -94,42 +94,17 @@ unfoldable pub differsOver : (ℕ → Mode) → Sight → Sight → List ℕ →
 differsOver mode σ τ [] = []
 differsOver mode σ τ (i ∷ is) = differsNew (mode i) (σ i) (τ i) ++ differsOver mode σ τ is
 
-abbrev pub differs : Question → List Mode → Sight → Sight → Program
-differs q ms σ τ = falseI ∷ differsOver (modeAt q ms) σ τ (q .visible)
-
 -- ---- the lists
 
 module _ (q : Question) where
-  abbrev pub C : Sight → Program
-  C σ = conditionProgram σ (q .condition)
-
-  -- M: the change's condition, then the range tests
-  abbrev pub moves : Condition → List Mode → Sight → Program
-  moves d ms σ = conditionProgram σ d ++ boundedAll σ (q .changed) ms
-
-  -- S: not M, or C(F)
-  abbrev pub S : Condition → List Mode → Sight → Program
-  S d ms σ = denied (moves d ms σ) or C (after q ms σ)
-
-  -- the program of a claim about row i, where σ has both rows' sights (FORMAT 5.2)
-  abbrev pub claims : Deed → (Bool → Sight) → Claim → Bool → Program
-  claims d σ listed i = C (σ i)
-  claims d σ relisted i = C (after q (d .modes) (σ i))
-  claims d σ chosen i = conditionProgram (σ i) (d .condition)
-  claims d σ moving i = moves (d .condition) (d .modes) (σ i)
-  claims d σ staying i = S (d .condition) (d .modes) (σ i)
-  claims d σ (differing j new) i = differs q (d .modes) (after q (d .modes) (σ i)) (cond new (after q (d .modes) (σ j)) (σ j))
-
-  abbrev pub programs : Deed → (Bool → Sight) → Reading Program
-  programs d σ = record { claims = claims d σ; deny = denied; both = _and_; nothing = trueI ∷ [] }
-
-  -- the sight of row i; a line of one row sees the first
-  abbrev pub rowSight : Bool → Bool → Sight
-  rowSight pairs i = cond (pairs && i) (secondSight q) firstSight
+  -- the words of the table (FORMAT 5.2), as programs; differ begins with false
+  abbrev pub programs : Condition → List Mode → Reading Sight Program
+  programs d ms = record { F = after q ms; C = λ σ. conditionProgram σ (q .condition); D = λ σ. conditionProgram σ d; M = λ σ. conditionProgram σ d ++ boundedAll σ (q .changed) ms; differ = λ σ τ. falseI ∷ differsOver (modeAt q ms) σ τ (q .visible); deny = denied; both = joined andI; either = joined orI }
 
   -- a line of the table
-  abbrev pub formula : Deed → Line → Formula
-  formula d l = let p = readParts (programs d (rowSight (l .pairs))) (l .parts) in cond (l .pairs) (twoRows q p) (oneRow q p)
+  abbrev pub formula : Condition → List Mode → Line → Formula
+  formula d ms (single p ps) = oneRow q (readParts (programs d ms) (λ i. firstSight) p ps)
+  formula d ms (double p ps) = twoRows q (readParts (programs d ms) (λ i. cond i (secondSight q) firstSight) p ps)
 
   -- asked 1
   abbrev pub irrelevance : Change → List Formula

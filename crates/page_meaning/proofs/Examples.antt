@@ -9,8 +9,8 @@ use lib.Dec.{T, T-not, not-T}
 use Rattle.page_numbers.proofs.Bridge.{from-leZ, to-leZ, from-ltZ, +law}
 use Rattle.page_meaning.specs.Condition.{compare, more, constant, meets, run}
 use Rattle.page_meaning.specs.Contents.{Values, _∈_, each, look, inRange, part, fits, columns, Unchanged, Irrelevant, Computable}
-use Rattle.page_meaning.specs.Trouble.{moves, moved, newFits}
-use Rattle.page_meaning.proofs.Words.{C, S}
+use Rattle.page_meaning.specs.Trouble.{moved, newFits}
+use Rattle.page_meaning.proofs.Words.{C, S, moves}
 use Rattle.page_meaning.specs.Witness.{cut, alone}
 use Rattle.page_meaning.specs.Exactly.{Relevant}
 use Rattle.page_meaning.specs.Examples.{keys, vals, aboveV, inserting, holding, hidden, lower, tooLow, tooHigh, picked, five, shortcut}

@@ -7,7 +7,7 @@ use lib.IntN.{_+ℤ_}
 use lib.Dec.{T}
 use Rattle.page_meaning.specs.Condition.{Condition, Row, meets, holds, unequal}
 use Rattle.page_meaning.specs.Contents.{Question, Change, Mode, keep, become, shift, Values, Table, look, columns, fits, inRange, newValue, part}
-use Rattle.page_meaning.specs.Claims.{Claim, listed, relisted, chosen, moving, staying, differing, Line, Deed, modeAt, kept, Reading, readParts, formulasBy}
+use Rattle.page_meaning.specs.Claims.{Line, single, double, modeAt, kept, Reading, readParts, formulasBy}
 
 -- FORMAT 5.1: a test of one full row, or of two that have the same values in the visible columns
 pub data Formula : Type 0 where
@@ -33,7 +33,7 @@ newFits (g ∷ gs) (keep ∷ ms) r = newFits gs ms r
 newFits (g ∷ gs) (become k ∷ ms) r = inRange g k && newFits gs ms r
 newFits (g ∷ gs) (shift j k ∷ ms) r = inRange g (r j +ℤ k) && newFits gs ms r
 
--- an or over the visible columns whose mode isn't 0, in order, of: the one value ≠ the other
+-- a or over the visible columns whose mode isn't 0, in order, of: the one value ≠ the other
 abbrev pub differOver : (ℕ → Mode) → List ℕ → Row → Row → Bool
 differOver mode [] a b = false
 differOver mode (i ∷ is) a b = (not (kept (mode i)) && holds unequal (a i) (b i)) || differOver mode is a b
@@ -41,25 +41,14 @@ differOver mode (i ∷ is) a b = (not (kept (mode i)) && holds unequal (a i) (b 
 -- ---- the lists
 
 module _ (q : Question) where
-  -- M: its condition, and the new values are in range
-  abbrev pub moves : Condition → List Mode → Row → Bool
-  moves d ms r = meets d r && newFits (q .changed) ms r
+  -- the words of the table (FORMAT 5.2), of rows
+  abbrev pub tests : Condition → List Mode → Reading Row Bool
+  tests d ms = record { F = moved q ms; C = meets (q .condition); D = meets d; M = λ r. meets d r && newFits (q .changed) ms r; differ = differOver (modeAt q ms) (q .visible); deny = not; both = _&&_; either = _||_ }
 
-  -- what a claim says of row i, where r has both rows (FORMAT 5.2)
-  abbrev pub claims : Deed → (Bool → Row) → Claim → Bool → Bool
-  claims d r listed i = meets (q .condition) (r i)
-  claims d r relisted i = meets (q .condition) (moved q (d .modes) (r i))
-  claims d r chosen i = meets (d .condition) (r i)
-  claims d r moving i = moves (d .condition) (d .modes) (r i)
-  claims d r staying i = not (moves (d .condition) (d .modes) (r i)) || meets (q .condition) (moved q (d .modes) (r i))
-  claims d r (differing j new) i = differOver (modeAt q (d .modes)) (q .visible) (moved q (d .modes) (r i)) (cond new (moved q (d .modes) (r j)) (r j))
-
-  abbrev pub tests : Deed → (Bool → Row) → Reading Bool
-  tests d r = record { claims = claims d r; deny = not; both = _&&_; nothing = true }
-
-  -- a line of the table
-  abbrev pub formula : Deed → Line → Formula
-  formula d l = cond (l .pairs) (two (λ r s. readParts (tests d (λ i. cond i s r)) (l .parts))) (one (λ r. readParts (tests d (λ i. r)) (l .parts)))
+  -- a line of the table; one about one row has no second
+  abbrev pub formula : Condition → List Mode → Line → Formula
+  formula d ms (single p ps) = one (λ r. readParts (tests d ms) (λ i. r) p ps)
+  formula d ms (double p ps) = two (λ r s. readParts (tests d ms) (λ i. cond i s r) p ps)
 
   -- asked 1
   abbrev pub irrelevance : Change → List Formula

@@ -19,6 +19,7 @@ use question::types::Token;
 ghost use mathlib.Core.Path.{_≡_};
 ghost use mathlib.Core.Bool.{true};
 ghost use Prim.Native.Nat.{_<_};
+ghost use Rattle.page_meaning.specs.Claims.{staying, claims};
 ghost use Rattle.page_meaning.specs.Claims as listed;
 ghost use Rattle.page_meaning.specs.WellFormed.{TokenUses};
 ghost use Rattle.question.specs.Held.{tokenOf, conditionOf, modeOf, columnOf, questionOf};
@@ -133,7 +134,7 @@ pub fn still(s: Sight) -> Sight
 // M: "its condition, then for each column not kept, in order, new ≤ hi and new ≥ lo"
 pub fn moves(p: Program, q: Question, s: Sight, d: Condition) -> Program
     requires { ⌜ Room p 66 28 × Usable q s × (s .moved ≡ true) × Ready q d ⌝ }
-    ensures { λ r. ⌜ Builds p r 66 28 (trouble.moves (questionOf q) (conditionOf d) (modesOf q s) (rowSight (questionOf q) (s .second))) ⌝ }
+    ensures { λ r. ⌜ Builds p r 66 28 (trouble.programs (questionOf q) (conditionOf d) (modesOf q s) .M (rowSight (questionOf q) (s .second))) ⌝ }
 {
     let one = condition(p, q, still(s), d);
     bounded_all(one, q, s)
@@ -142,7 +143,7 @@ pub fn moves(p: Program, q: Question, s: Sight, d: Condition) -> Program
 // "S = (not M) or C(F)"
 pub fn settled(p: Program, q: Question, s: Sight, d: Condition) -> Program
     requires { ⌜ Room p 102 40 × Usable q s × (s .moved ≡ true) × Ready q d × Ready q (q .condition) ⌝ }
-    ensures { λ r. ⌜ Builds p r 102 40 (trouble.S (questionOf q) (conditionOf d) (modesOf q s) (rowSight (questionOf q) (s .second))) ⌝ }
+    ensures { λ r. ⌜ Builds p r 102 40 (claims (trouble.programs (questionOf q) (conditionOf d) (modesOf q s)) (rowSight (questionOf q)) staying (s .second)) ⌝ }
 {
     let one = moves(p, q, s, d);
     let two = emit(one, Joint::Not);

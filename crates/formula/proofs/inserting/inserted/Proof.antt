@@ -1,6 +1,7 @@
 use mathlib.Core.Path.{ap₂}
 use Rattle.question.specs.Held.{questionOf}
-use Rattle.page_formulas.specs.Formulas.{C, after}
+use Rattle.page_formulas.specs.Formulas.{after}
+use Rattle.formula.specs.Able.{C}
 use Rattle.sights.specs.Seen.{rowSight}
 use Rattle.formula.proofs.PutIns.{row-formula}
 use Rattle.formula.proofs.Troubled.{all, one}

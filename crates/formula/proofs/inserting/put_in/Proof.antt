@@ -1,7 +1,7 @@
 use mathlib.Core.Path.{refl}
 use lib.ListN.{take}
 use Rattle.sights.specs.Seen.{There}
-use Rattle.page_formulas.proofs.Usable.{reads-become}
+use Rattle.page_meaning.proofs.Moving.{reads-become}
 use Rattle.formula.proofs.PutIns.{first-modes}
 use borrow.Author.Needs.{needs}
 use Rattle.formula.proofs.inserting.put_in.Statement.{statement}

@@ -1,6 +1,6 @@
 use mathlib.Core.Path.{ap}
 use borrow.Author.Needs.{needs}
-use Rattle.page_formulas.specs.Parts.{_and_}
+use Rattle.formula.specs.Able.{_and_}
 use Rattle.page_formulas.specs.Formulas as F
 use Rattle.program.specs.Built.{Room}
 use Rattle.formula.proofs.Troubled.{all, rest, enough, one, before, chosen}
