@@ -1,77 +1,62 @@
--- What the code takes for granted of a question when it builds its formulas, and what a formula's parts promise.
-use Prim.Native.Nat.{ℕ}
+-- What the code takes for granted of a question when it writes its formulas, and what the table's declared words mean.
+use Prim.Native.Nat.{ℕ, _≤_, _<_}
 use mathlib.Core.Path.{_≡_}
-use mathlib.Core.Bool.{Bool, true, false, cond}
-use mathlib.Core.List.{List, map}
+use mathlib.Core.Bool.{Bool, true, false}
+use mathlib.Core.List.{List, [], map}
 use lib.ListN.{length, getD, take}
 use lib.IntN.{ℤ}
-use lib.Dec.{eqb}
-use Rattle.page_meaning.specs.Limits.{mostTables, mostColumns, mostRows}
-use Rattle.page_meaning.specs.Condition as M
-use Rattle.page_meaning.specs.Contents.{Mode, become}
-use Rattle.page_meaning.specs.Contents as M'
+use Rattle.page_meaning.specs.Limits.{mostTables, mostColumns, mostTokens, mostRows}
+use Rattle.page_meaning.specs.Contents.{Mode, become, columns, first}
+use Rattle.page_meaning.specs.Contents as M
+use Rattle.page_meaning.specs.Claims as claim
+use Rattle.page_meaning.specs.Claims.{insertion, deletion, modification, putting}
 use Rattle.page_meaning.specs.WellFormed.{Reads}
-use Rattle.question.specs.Held.{conditionOf, settingOf}
+use Rattle.question.specs.Held.{conditionOf, settingOf, questionOf}
 use Rattle.question.specs.Held as H
 use Rattle.question.specs.declared.types.Question.{Question}
 use Rattle.question.specs.declared.types.Setting.{Setting}
 use Rattle.question.specs.declared.types.Row.{Row}
 use Rattle.question.specs.declared.types.Verb.{Verb}
 use Rattle.question.specs.declared.types.Verb.the-variants.{Insert, Delete, Modify}
+use Rattle.page_formulas.specs.Compile as C
 use Rattle.page_formulas.specs.Formulas as F
-use Rattle.page_formulas.specs.Formulas.{noFormula}
-use Rattle.sights.specs.Seen.{There, Whole, Usable, modesOf}
-use Rattle.sights.specs.Partway.{Ready}
-use Rattle.program.specs.declared.types.Sight.{Sight}
+use Rattle.page_formulas.specs.Formulas.{noFormula, boundedAll}
+use Rattle.program.specs.declared.types.End.{End}
+use Rattle.sights.specs.Seen.{There, Has, Whole, Usable, modesOf, visibleOf}
+use Rattle.sights.specs.Partway.{Ready, tableFrom}
+use Rattle.sights.specs.declared.types.Sight.{Sight}
+use Rattle.formula.specs.declared.types.Claim.{Claim}
+use Rattle.formula.specs.declared.types.Claim.the-variants.{Listed, Relisted, Chosen, Moving, Staying, Differing}
+use Rattle.formula.specs.declared.types.Part.{Part}
+use Rattle.formula.specs.declared.types.Line.{Line}
+use Rattle.formula.specs.declared.types.Deed.{Deed}
+
+abbrev pub formulaAt : List F.Formula → ℕ → F.Formula
+formulaAt l i = getD l i noFormula
+
+-- ---- the question
 
 -- the modify's modes
 abbrev pub settledModes : Question → List Mode
 settledModes q = map settingOf (take (q .shape .width) (q .change .settings))
 
--- the condition of a delete or a modify
-abbrev pub deed : Question → M.Condition
-deed q = conditionOf (q .change .condition)
-
--- its list can be worked out
+-- its list can be worked out, in arrays as long as declared
 pub record Able (q : Question) : Type 0 where
   pub whole : Whole q
   pub long : length (q .change .settings) ≡ mostColumns
   pub rows : length (q .change .rows) ≡ mostRows
-  pub listed : Ready q (q .condition)
+  pub tokens : length (q .change .condition .tokens) ≡ mostTokens
+  pub listed : Ready (There q) (q .condition)
 
 -- and a delete's condition
 pub record Chooses (q : Question) : Type 0 where
   pub able : Able q
-  pub chosen : Ready q (q .change .condition)
+  pub chosen : Ready (There q) (q .change .condition)
 
 -- and a modify's new values
 pub record Modifies (q : Question) : Type 0 where
   pub chooses : Chooses q
   pub reads : Reads (There q) (settledModes q)
-
--- a row as it is, and after the modify
-abbrev pub rowOf : Question → Bool → Bool → Sight
-rowOf q second moved = record { settings = q .change .settings; second = second; moved = moved }
-
-pub record Views (q : Question) (second moved : Bool) (r : Sight) : Type 0 where
-  pub is : r ≡ rowOf q second moved
-  pub usable : Usable q r
-  pub moves : r .moved ≡ moved
-
-abbrev pub formulaAt : List F.Formula → ℕ → F.Formula
-formulaAt l i = getD l i noFormula
-
--- settings that put the values in
-pub record Becomes (vs : List ℤ) (ss : List Setting) : Type 0 where
-  pub long : length ss ≡ mostColumns
-  pub modes : map settingOf ss ≡ map become vs
-
--- the first row with an inserted row's values put in
-pub record PutIn (q : Question) (row : Row) (r : Sight) : Type 0 where
-  pub usable : Usable q r
-  pub moves : r .moved ≡ true
-  pub first : r .second ≡ false
-  pub modes : modesOf q r ≡ map become (H.rowOf (q .shape .width) row)
 
 -- what its change asks
 abbrev pub Buildable : Verb → Question → Type 0
@@ -79,10 +64,101 @@ Buildable Insert q = Able q
 Buildable Delete q = Chooses q
 Buildable Modify q = Modifies q
 
--- the formulas of a change, as asked
-abbrev pub askedOf : ℕ → M'.Question → M'.Change → List F.Formula
-askedOf asked q ch = cond (eqb asked 1) (F.irrelevance q ch) (F.computability q ch)
-
 -- a width for each table
 abbrev pub Widths : Question → Type 0
 Widths q = length (q .shape .widths) ≡ mostTables
+
+-- ---- the table's words
+
+abbrev pub claimOf : Claim → claim.Claim
+claimOf Listed = claim.listed
+claimOf Relisted = claim.relisted
+claimOf Chosen = claim.chosen
+claimOf Moving = claim.moving
+claimOf Staying = claim.staying
+claimOf (Differing other after) = claim.differing other after
+
+abbrev pub partOf : Part → claim.Part
+partOf p = record { claim = claimOf (p .claim); second = p .second; denied = p .denied }
+
+abbrev pub lineOf : Line → claim.Line
+lineOf l = record { pairs = l .pairs; parts = map partOf (take (l .count) (l .parts)) }
+
+-- how many parts a line has room for
+abbrev pub mostParts : ℕ
+mostParts = 7
+
+-- a line of the table, as it is declared
+pub record Tabled (r : Line) (l : claim.Line) : Type 0 where
+  pub is : lineOf r ≡ l
+  pub some : 1 ≤ r .count
+  pub few : r .count ≤ mostParts
+  pub long : length (r .parts) ≡ mostParts
+
+abbrev pub noLine : claim.Line
+noLine = record { pairs = false; parts = [] }
+
+-- the line of formula i, asked 1 or 2
+abbrev pub lineFor : Verb → Bool → ℕ → claim.Line
+lineFor Insert b i = insertion
+lineFor Delete b i = getD (deletion b) i noLine
+lineFor Modify b i = getD (modification b) i noLine
+
+-- there is such a line
+abbrev pub Numbered : Verb → Bool → ℕ → Type 0
+Numbered Insert b i = Unit {0}
+Numbered Delete b i = i < length (deletion b)
+Numbered Modify b i = i < length (modification b)
+
+-- ---- what it is read under
+
+abbrev pub deedOf : Deed → claim.Deed
+deedOf d = record { condition = conditionOf (d .chosen); modes = modesOf (d .sight) }
+
+-- the machine's row past the end of an array
+abbrev pub noRow : Row
+noRow = record { values = [] }
+
+-- the deed of formula i
+abbrev pub deedFor : Verb → Question → ℕ → claim.Deed
+deedFor Insert q i = putting (H.rowOf (q .shape .width) (getD (q .change .rows) i noRow))
+deedFor Delete q i = record { condition = conditionOf (q .change .condition); modes = [] }
+deedFor Modify q i = record { condition = conditionOf (q .change .condition); modes = settledModes q }
+
+-- one row of a sight, as it is or moved
+abbrev pub viewOf : Sight → Bool → Bool → Sight
+viewOf s second moved = record { settings = s .settings; visible = s .visible; first = s .first; modes = s .modes; total = s .total; second = second; moved = moved }
+
+-- its columns and conditions are the question's
+pub record Under (Q : M.Question) (d : Deed) : Type 0 where
+  pub first : first Q ≡ d .sight .first
+  pub total : length (columns Q) ≡ d .sight .total
+  pub visible : Q .visible ≡ visibleOf (d .sight)
+  pub listed : Q .condition ≡ conditionOf (d .listed)
+  pub tests : (σ : C.Sight) → boundedAll σ (tableFrom (d .sight .first) (d .columns)) (modesOf (d .sight)) ≡ boundedAll σ (Q .changed) (modesOf (d .sight))
+
+-- it is some question's, and its sight and conditions can be read
+pub record Legible (d : Deed) : Type 0 where
+  pub question : M.Question
+  pub under : Under question d
+  pub usable : Usable (d .sight)
+  pub moved : d .sight .moved ≡ true
+  pub long : length (d .columns) ≡ mostColumns
+  pub listed : Ready (Has (d .sight)) (d .listed)
+  pub chosen : Ready (Has (d .sight)) (d .chosen)
+
+-- a question's deed, as it is declared
+pub record Done (q : Question) (d : claim.Deed) (two : Bool) (r : Deed) : Type 0 where
+  pub legible : Legible r
+  pub under : Under (questionOf q) r
+  pub is : deedOf r ≡ d
+  pub pairs : r .pairs ≡ two
+
+-- settings that put the values in
+pub record Becomes (vs : List ℤ) (ss : List Setting) : Type 0 where
+  pub long : length ss ≡ mostColumns
+  pub modes : map settingOf ss ≡ map become vs
+
+-- where a program begins
+abbrev pub begun : End
+begun = record { count = 0; places = 0 }
