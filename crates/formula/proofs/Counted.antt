@@ -10,7 +10,7 @@ use lib.ListN.{length, take, drop, length-map, length-drop}
 use lib.Seq.{length-take-le}
 use Rattle.page_meaning.specs.Contents.{Range, Table}
 use Rattle.page_meaning.specs.Contents as M
-use Rattle.page_meaning.specs.Claims.{putting, insertion, unlessAlone}
+use Rattle.page_meaning.specs.Claims.{insertion, unlessAlone}
 use Rattle.page_questions.specs.Layout.{tablesOf, firstOf, widthOf, questionFrom}
 use Rattle.question.specs.Held.{rowOf, rangesOf, widthsOf, conditionOf, questionOf}
 use Rattle.question.specs.declared.types.Question.{Question}
@@ -38,12 +38,12 @@ abbrev newRows : Question → List M.Values
 newRows q = map (rowOf (q .shape .width)) (take (q .change .count) (q .change .rows))
 
 abbrev puts : Question → List F.Formula
-puts q = map (λ n. F.formula (questionOf q) (putting n) insertion) (newRows q)
+puts q = map (λ n. F.formula (questionOf q) [] (map M.become n) insertion) (newRows q)
 
 module _ (q : Question) (a : Able q) (w : Widths q) where
   listed-length : length (puts q) ≡ q .change .count
   listed-length =
-      length-map (newRows q) (λ n. F.formula (questionOf q) (putting n) insertion)
+      length-map (newRows q) (λ n. F.formula (questionOf q) [] (map M.become n) insertion)
       ∙ length-map (take (q .change .count) (q .change .rows)) (rowOf (q .shape .width))
       ∙ length-take-le (q .change .count) (q .change .rows) (omega (arith, a .rows, a .whole .held .change .fewRows))
 

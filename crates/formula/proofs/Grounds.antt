@@ -10,7 +10,6 @@ use lib.ListN.{length, getD, take, drop, length-map, length-drop, List·getD-map
 use lib.Seq.{getD-take, getD-drop, length-take-le}
 use Rattle.page_meaning.specs.Limits.{mostColumns}
 use Rattle.page_meaning.specs.Contents.{Range, Mode, become, columns}
-use Rattle.page_meaning.specs.Claims as claim
 use Rattle.page_meaning.specs.WellFormed.{Reads}
 use Rattle.page_questions.specs.Layout.{visibleFrom, questionFrom}
 use Rattle.question.specs.Held.{columnOf, rangesOf, settingOf, conditionOf, questionOf}
@@ -129,7 +128,7 @@ module _ (q : Question) (a : Able q) (settings : List Setting) (modes : ℕ) (ch
   grounded : Under (questionOf q) grounds
   grounded = record { first = first-is q w; total = columns-length q w; visible = visible-are; listed = condition-is q; tests = tests-same }
 
-  pub grounds-done : Done q (record { condition = conditionOf chosen; modes = map settingOf (take modes settings) }) pairs grounds
+  pub grounds-done : Done q (conditionOf chosen) (map settingOf (take modes settings)) pairs grounds
   grounds-done =
       record {
         legible =
@@ -150,7 +149,8 @@ module _ (q : Question) (a : Able q) (settings : List Setting) (modes : ℕ) (ch
               chosen = ready;
             };
         under = grounded;
-        is = refl;
+        condition = refl;
+        modes = refl;
         pairs = refl;
       }
 
@@ -158,3 +158,8 @@ module _ (q : Question) (a : Able q) (settings : List Setting) (modes : ℕ) (ch
 
 pub put-modes : (vs : List ℤ) (ss : List Setting) (n : ℕ) → Becomes vs ss → map settingOf (take n ss) ≡ map become (take n vs)
 put-modes vs ss n b = map-take settingOf n ss ∙ ap (take n) (b .modes) ∙ sym (map-take become n vs)
+
+-- new values that come from no column
+pub reads-become : (P : ℕ → Type 0) (vs : List ℤ) → Reads P (map become vs)
+reads-become P [] = tt
+reads-become P (v ∷ vs) = reads-become P vs

@@ -7,24 +7,24 @@ use native.Mathlib.Omega.{arith}
 use lib.Dec.{eqb}
 use lib.ListN.{length, getD, take, length-map}
 use lib.Seq.{getD-take, length-take-le}
-use Rattle.page_meaning.specs.Contents.{Table, Change, insert, delete, modify, columns}
+use Rattle.page_meaning.specs.Contents.{Table, Change, Mode, become, columns}
 use Rattle.page_meaning.specs.Contents as M
-use Rattle.page_meaning.specs.Claims.{Line, Deed, putting, insertion, deletion, modification, readParts, unlessAlone, formulasBy}
+use Rattle.page_meaning.specs.Claims.{Part, Line, insertion, deletion, modification, readParts, unlessAlone, formulasBy}
+use Rattle.page_meaning.specs.Condition.{Condition}
 use Rattle.page_questions.specs.Accepted.{Every}
 use Rattle.page_questions.specs.Layout.{questionFrom}
 use Rattle.question.specs.Held.{changeBy, changeOf, rowOf, conditionOf, questionOf}
 use Rattle.question.specs.declared.types.Question.{Question}
 use Rattle.question.specs.declared.types.Verb.{Verb}
 use Rattle.question.specs.declared.types.Verb.the-variants.{Insert, Delete, Modify}
-use Rattle.page_formulas.specs.Program as P
 use Rattle.page_formulas.specs.Costs.{Fits}
 use Rattle.page_formulas.specs.Formulas as F
-use Rattle.page_formulas.proofs.Readings.{every-formula}
-use Rattle.page_formulas.proofs.Usable.{Deeds}
+use Rattle.page_formulas.proofs.Readings.{insertion-fits, deletion-fits, modification-fits}
 use Rattle.program.specs.Built.{Means}
+use Rattle.sights.specs.Seen.{modesOf}
 use Rattle.program.specs.Compiled.{Compiled, Spans}
 use Rattle.program.specs.declared.types.Formula as compiled
-use Rattle.formula.specs.Able.{Able, Buildable, formulaAt, settledModes, noLine, noRow, lineOf, lineFor, deedOf, deedFor, Numbered, Tabled, Done}
+use Rattle.formula.specs.Able.{Able, Buildable, formulaAt, noRow, firstOf, restOf, lineBy, lineFor, conditionFor, modesFor, rowsOf, wordsOf, Numbered, Tabled, Done}
 use Rattle.formula.specs.declared.types.Line as declared
 use Rattle.formula.specs.declared.types.Deed as types
 use Rattle.formula.proofs.Fills.{map-at}
@@ -55,14 +55,14 @@ not-left-out (t ∷ ts) us l i h = refl
 pub record Found (q : Question) (v : Verb) (b : Bool) (i : ℕ) (l : List F.Formula) : Type 0 where
   pub row : v ≡ Insert → i < q .change .count
   pub line : Numbered v b i
-  pub formula : formulaAt l i ≡ F.formula (questionOf q) (deedFor v q i) (lineFor v b i)
+  pub formula : formulaAt l i ≡ F.formula (questionOf q) (conditionFor v q) (modesFor v q i) (lineFor v b i)
 
 module _ (q : Question) (i : ℕ) where
   abbrev new : List M.Values
   new = map (rowOf (q .shape .width)) (take (q .change .count) (q .change .rows))
 
   abbrev put : M.Values → F.Formula
-  put n = F.formula (questionOf q) (putting n) insertion
+  put n = F.formula (questionOf q) [] (map become n) insertion
 
   in-rows : Able q → i < length (map put new) → i < q .change .count
   in-rows a h = omega (arith, length-map new put, length-map (take (q .change .count) (q .change .rows)) (rowOf (q .shape .width)), length-take-le (q .change .count) (q .change .rows) (omega (arith, a .rows, a .whole .held .change .fewRows)))
@@ -79,11 +79,11 @@ module _ (q : Question) (i : ℕ) where
             ∙ ap put (map-at (rowOf (q .shape .width)) r i noRow _ (omega (arith, length-map new put, length-map r (rowOf (q .shape .width)))) ∙ ap (rowOf (q .shape .width)) (getD-take (q .change .count) (q .change .rows) i noRow k));
       }
 
-  line-found : (v : Verb) (b : Bool) (ls : List Line) → (v ≡ Insert → ⊥) → (i < length ls → Numbered v b i) → getD ls i noLine ≡ lineFor v b i → i < length (map (F.formula (questionOf q) (deedFor v q i)) ls) → Found q v b i (map (F.formula (questionOf q) (deedFor v q i)) ls)
+  line-found : (v : Verb) (b : Bool) (ls : List Line) → (v ≡ Insert → ⊥) → (i < length ls → Numbered v b i) → getD ls i insertion ≡ lineFor v b i → i < length (map (F.formula (questionOf q) (conditionFor v q) (modesFor v q i)) ls) → Found q v b i (map (F.formula (questionOf q) (conditionFor v q) (modesFor v q i)) ls)
   line-found v b ls other there is h =
-      let f = F.formula (questionOf q) (deedFor v q i) in
+      let f = F.formula (questionOf q) (conditionFor v q) (modesFor v q i) in
       let k : i < length ls = omega (arith, length-map ls f) in
-      record { row = λ e. absurd (other e); line = there k; formula = map-at f ls i noLine F.noFormula k ∙ ap f is }
+      record { row = λ e. absurd (other e); line = there k; formula = map-at f ls i insertion F.noFormula k ∙ ap f is }
 
   found-by : (v : Verb) (b : Bool) → Buildable v q → i < length (lists (questionOf q) (changeBy v (q .shape .width) (q .change)) b) → Found q v b i (lists (questionOf q) (changeBy v (q .shape .width) (q .change)) b)
   found-by Insert true a h = row-found a true h
@@ -110,38 +110,28 @@ tabled {r} v b k i j e h t = subst (λ b. Tabled r (lineFor v b i)) (sym e) (sub
 
 -- ---- every line finds room
 
-fits-of : (Q : M.Question) (ch : Change) (b : Bool) → Every Fits (formulasBy (λ d l. l) Q ch b)
-fits-of Q ch b = every-formula Fits (λ d l. l) (λ d. Unit {0}) (λ d p l f. f) Q ch (anyone ch) b
-  where
-    anyone : (ch : Change) → Deeds (λ d. Unit {0}) ch
-    anyone (insert new) = λ n m. tt
-    anyone (delete d) = tt
-    anyone (modify d ms) = tt
+fits-at : (ls : List Line) (i : ℕ) → i < length ls → Every Fits ls → Fits (getD ls i insertion)
+fits-at [] i h e = absurd (omega arith)
+fits-at (l ∷ ls) zero h e = e .0
+fits-at (l ∷ ls) (suc i) h e = fits-at ls i (omega arith) (e .1)
 
-line-at : (ls : List Line) (i : ℕ) → i < length ls → Every Fits (map (λ l. l) ls) → Fits (getD ls i noLine)
-line-at [] i h e = absurd (omega arith)
-line-at (l ∷ ls) zero h e = e .0
-line-at (l ∷ ls) (suc i) h e = line-at ls i (omega arith) (e .1)
-
-pub line-fits : (Q : M.Question) (v : Verb) (b : Bool) (i : ℕ) → Numbered v b i → Fits (lineFor v b i)
-line-fits Q Insert b i h = fits-of Q (insert ([] ∷ [])) true .0
-line-fits Q Delete b i h = line-at (deletion b) i h (fits-of Q (delete []) b)
-line-fits Q Modify b i h = line-at (modification b) i h (fits-of Q (modify [] []) b)
+pub line-fits : (v : Verb) (b : Bool) (i : ℕ) → Numbered v b i → Fits (lineFor v b i)
+line-fits Insert b i h = insertion-fits
+line-fits Delete b i h = fits-at (deletion b) i h (deletion-fits b)
+line-fits Modify b i h = fits-at (modification b) i h (modification-fits b)
 
 -- ---- a formula from its program and its vertices
 
-outlined : (Q : M.Question) (f : compiled.Formula) (d : Deed) (l : Line) → f .pairs ≡ l .pairs → Means (f .program) (readParts (F.programs Q d (F.rowSight Q (l .pairs))) (l .parts)) → Spans (f .vertices) (cond (l .pairs) (F.bothRanges Q) (F.firstRanges (columns Q))) → Compiled f (F.formula Q d l)
-outlined Q f d l e m s = go (l .pairs) e s
-  where
-    go : (b : Bool) → f .pairs ≡ b → Spans (f .vertices) (cond b (F.bothRanges Q) (F.firstRanges (columns Q))) → let p = readParts (F.programs Q d (F.rowSight Q (l .pairs))) (l .parts) in Compiled f (cond b (F.twoRows Q p) (F.oneRow Q p))
-    go true k s = record { program = m; pairs = k; vertices = s }
-    go false k s = record { program = m; pairs = k; vertices = s }
+outlined : (Q : M.Question) (f : compiled.Formula) (d : Condition) (ms : List Mode) (b : Bool) (p : Part) (ps : List Part) → f .pairs ≡ b → Means (f .program) (readParts (F.programs Q d ms) (rowsOf Q b) p ps) → Spans (f .vertices) (cond b (F.bothRanges Q) (F.firstRanges (columns Q))) → Compiled f (F.formula Q d ms (lineBy b p ps))
+outlined Q f d ms true p ps k m s = record { program = m; pairs = k; vertices = s }
+outlined Q f d ms false p ps k m s = record { program = m; pairs = k; vertices = s }
 
-module _ (q : Question) (f : compiled.Formula) (l : declared.Line) (d : types.Deed) (v : Verb) (b : Bool) (i : ℕ) (fs : List F.Formula) (w : Found q v b i fs) (t : Tabled l (lineFor v b i)) (n : Done q (deedFor v q i) (l .pairs) d) where
-  pub written : f .pairs ≡ l .pairs → Means (f .program) (readParts (F.programs (questionOf q) (deedOf d) (F.rowSight (questionOf q) (d .pairs))) (lineOf l .parts)) → Spans (f .vertices) (cond (l .pairs) (F.bothRanges (questionOf q)) (F.firstRanges (columns (questionOf q)))) → Compiled f (formulaAt fs i)
+module _ (q : Question) (f : compiled.Formula) (l : declared.Line) (d : types.Deed) (v : Verb) (b : Bool) (i : ℕ) (fs : List F.Formula) (w : Found q v b i fs) (t : Tabled l (lineFor v b i)) (n : Done q (conditionFor v q) (modesFor v q i) (l .pairs) d) where
+  pub written : f .pairs ≡ l .pairs → Means (f .program) (readParts (wordsOf (questionOf q) d) (rowsOf (questionOf q) (d .pairs)) (firstOf l) (restOf l)) → Spans (f .vertices) (cond (l .pairs) (F.bothRanges (questionOf q)) (F.firstRanges (columns (questionOf q)))) → Compiled f (formulaAt fs i)
   written e m s =
       let Q = questionOf q in
-      let k = subst (λ two. Means (f .program) (readParts (F.programs Q (deedOf d) (F.rowSight Q two)) (lineOf l .parts))) (n .pairs) m in
+      let k = subst (λ two. Means (f .program) (readParts (wordsOf Q d) (rowsOf Q two) (firstOf l) (restOf l))) (n .pairs) m in
       subst (Compiled f) (sym (w .formula))
-      (subst (λ x. Compiled f (F.formula Q x (lineFor v b i))) (n .is)
-      (subst (λ x. Compiled f (F.formula Q (deedOf d) x)) (t .is) (outlined Q f (deedOf d) (lineOf l) e k s)))
+      (subst (λ x. Compiled f (F.formula Q x (modesFor v q i) (lineFor v b i))) (n .condition)
+      (subst (λ x. Compiled f (F.formula Q (conditionOf (d .chosen)) x (lineFor v b i))) (n .modes)
+      (subst (λ x. Compiled f (F.formula Q (conditionOf (d .chosen)) (modesOf (d .sight)) x)) (t .is) (outlined Q f (conditionOf (d .chosen)) (modesOf (d .sight)) (l .pairs) (firstOf l) (restOf l) e k s))))

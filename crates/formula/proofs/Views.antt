@@ -9,15 +9,15 @@ use lib.ListN.{getD, replicate}
 use Rattle.page_meaning.specs.Contents.{Question, Mode, keep}
 use Rattle.page_meaning.specs.Claims.{modeAt}
 use Rattle.page_formulas.specs.Compile as C
-use Rattle.page_formulas.specs.Program.{Program, falseI}
+use Rattle.page_formulas.specs.Program.{falseI}
 use Rattle.page_formulas.specs.Parts.{conditionProgram}
-use Rattle.page_formulas.specs.Formulas.{vertex, among, newTerm, after, boundedAll, differs, differsOver}
+use Rattle.page_formulas.specs.Formulas.{vertex, among, newTerm, after, boundedAll, differsOver}
 use Rattle.page_formulas.specs.Formulas as F
 use Rattle.question.specs.Held.{conditionOf}
 use Rattle.sights.specs.Seen.{flagsOf, shownFrom, visibleOf, rowOf, modesOf, modeIn, sightOf, Usable}
 use Rattle.sights.specs.Partway.{tableFrom}
 use Rattle.sights.specs.declared.types.Sight.{Sight}
-use Rattle.formula.specs.Able.{viewOf, deedOf, Under, Legible}
+use Rattle.formula.specs.Able.{viewOf, rowsOf, wordsOf, Under, Legible}
 use Rattle.formula.specs.declared.types.Deed.{Deed}
 
 -- ---- the visible columns
@@ -56,7 +56,7 @@ module _ (Q : Question) (d : Deed) (u : Under Q d) where
 
   module _ (second : Bool) where
     abbrev row : C.Sight
-    row = F.rowSight Q (d .pairs) second
+    row = rowsOf Q (d .pairs) second
 
     abbrev old : Sight
     old = viewOf (d .sight) (d .pairs && second) false
@@ -73,13 +73,13 @@ module _ (Q : Question) (d : Deed) (u : Under Q d) where
 
     -- ---- conditions and range tests
 
-    pub listed-is : conditionProgram (sightOf old) (conditionOf (d .listed)) ≡ F.C Q row
+    pub listed-is : conditionProgram (sightOf old) (conditionOf (d .listed)) ≡ conditionProgram row (Q .condition)
     listed-is = ap₂ conditionProgram old-is (sym (u .listed))
 
-    pub relisted-is : conditionProgram (sightOf new) (conditionOf (d .listed)) ≡ F.C Q (after Q modes row)
+    pub relisted-is : conditionProgram (sightOf new) (conditionOf (d .listed)) ≡ conditionProgram (after Q modes row) (Q .condition)
     relisted-is = ap₂ conditionProgram new-is (sym (u .listed))
 
-    pub chosen-is : conditionProgram (sightOf old) (conditionOf (d .chosen)) ≡ conditionProgram row (deedOf d .condition)
+    pub chosen-is : conditionProgram (sightOf old) (conditionOf (d .chosen)) ≡ conditionProgram row (conditionOf (d .chosen))
     chosen-is = ap (λ σ. conditionProgram σ (conditionOf (d .chosen))) old-is
 
     pub tests-are : boundedAll (rowOf new) (tableFrom (d .sight .first) (d .columns)) modes ≡ boundedAll row (Q .changed) modes
@@ -87,11 +87,11 @@ module _ (Q : Question) (d : Deed) (u : Under Q d) where
 
   -- ---- differences
 
-  pub than-is : (other moved : Bool) → sightOf (viewOf (d .sight) (d .pairs && other) moved) ≡ cond moved (after Q modes (F.rowSight Q (d .pairs) other)) (F.rowSight Q (d .pairs) other)
+  pub than-is : (other moved : Bool) → sightOf (viewOf (d .sight) (d .pairs && other) moved) ≡ cond moved (after Q modes (rowsOf Q (d .pairs) other)) (rowsOf Q (d .pairs) other)
   than-is other true = new-is other
   than-is other false = old-is other
 
-  pub differs-is : (second other moved : Bool) → let a = viewOf (d .sight) (d .pairs && second) true in falseI ∷ differsOver (modeIn a) (sightOf a) (sightOf (viewOf (d .sight) (d .pairs && other) moved)) (visibleOf a) ≡ differs Q modes (after Q modes (F.rowSight Q (d .pairs) second)) (cond moved (after Q modes (F.rowSight Q (d .pairs) other)) (F.rowSight Q (d .pairs) other))
+  pub differs-is : (second other moved : Bool) → let a = viewOf (d .sight) (d .pairs && second) true in falseI ∷ differsOver (modeIn a) (sightOf a) (sightOf (viewOf (d .sight) (d .pairs && other) moved)) (visibleOf a) ≡ wordsOf Q d .differ (after Q modes (rowsOf Q (d .pairs) second)) (cond moved (after Q modes (rowsOf Q (d .pairs) other)) (rowsOf Q (d .pairs) other))
   differs-is second other moved =
       ap (λ m. falseI ∷ differsOver m (sightOf (viewOf (d .sight) (d .pairs && second) true)) (sightOf (viewOf (d .sight) (d .pairs && other) moved)) (visibleOf (d .sight))) (mode-is (d .pairs && second))
       ∙ ap (λ vs. falseI ∷ differsOver (modeAt Q modes) (sightOf (viewOf (d .sight) (d .pairs && second) true)) (sightOf (viewOf (d .sight) (d .pairs && other) moved)) vs) (sym (u .visible))

@@ -1,15 +1,16 @@
 -- What the code takes for granted of a question when it writes its formulas, and what the table's declared words mean.
 use Prim.Native.Nat.{ℕ, _≤_, _<_}
 use mathlib.Core.Path.{_≡_}
-use mathlib.Core.Bool.{Bool, true, false}
+use mathlib.Core.Bool.{Bool, true, false, cond, _&&_}
 use mathlib.Core.List.{List, [], map}
-use lib.ListN.{length, getD, take}
+use lib.ListN.{length, getD, take, drop}
 use lib.IntN.{ℤ}
 use Rattle.page_meaning.specs.Limits.{mostTables, mostColumns, mostTokens, mostRows}
 use Rattle.page_meaning.specs.Contents.{Mode, become, columns, first}
 use Rattle.page_meaning.specs.Contents as M
 use Rattle.page_meaning.specs.Claims as claim
-use Rattle.page_meaning.specs.Claims.{insertion, deletion, modification, putting}
+use Rattle.page_meaning.specs.Claims.{insertion, deletion, modification}
+use Rattle.page_meaning.specs.Condition as C
 use Rattle.page_meaning.specs.WellFormed.{Reads}
 use Rattle.question.specs.Held.{conditionOf, settingOf, questionOf}
 use Rattle.question.specs.Held as H
@@ -18,7 +19,8 @@ use Rattle.question.specs.declared.types.Setting.{Setting}
 use Rattle.question.specs.declared.types.Row.{Row}
 use Rattle.question.specs.declared.types.Verb.{Verb}
 use Rattle.question.specs.declared.types.Verb.the-variants.{Insert, Delete, Modify}
-use Rattle.page_formulas.specs.Compile as C
+use Rattle.page_formulas.specs.Compile as S
+use Rattle.page_formulas.specs.Program as P
 use Rattle.page_formulas.specs.Formulas as F
 use Rattle.page_formulas.specs.Formulas.{noFormula, boundedAll}
 use Rattle.program.specs.declared.types.End.{End}
@@ -78,11 +80,35 @@ claimOf Moving = claim.moving
 claimOf Staying = claim.staying
 claimOf (Differing other after) = claim.differing other after
 
+abbrev pub partBy : Bool → Bool → claim.Claim → claim.Part
+partBy false false c = claim.of1 c
+partBy true false c = claim.of2 c
+partBy false true c = claim.not1 c
+partBy true true c = claim.not2 c
+
 abbrev pub partOf : Part → claim.Part
-partOf p = record { claim = claimOf (p .claim); second = p .second; denied = p .denied }
+partOf p = partBy (p .second) (p .denied) (claimOf (p .claim))
+
+-- the machine's part past the end of an array
+abbrev pub noPart : Part
+noPart = record { claim = Listed; second = false; denied = false }
+
+-- a line's parts; the first and the others
+abbrev pub partsOf : Line → List claim.Part
+partsOf l = map partOf (take (l .count) (l .parts))
+
+abbrev pub firstOf : Line → claim.Part
+firstOf l = partOf (getD (l .parts) 0 noPart)
+
+abbrev pub restOf : Line → List claim.Part
+restOf l = drop 1 (partsOf l)
+
+abbrev pub lineBy : Bool → claim.Part → List claim.Part → claim.Line
+lineBy true p ps = claim.double p ps
+lineBy false p ps = claim.single p ps
 
 abbrev pub lineOf : Line → claim.Line
-lineOf l = record { pairs = l .pairs; parts = map partOf (take (l .count) (l .parts)) }
+lineOf l = lineBy (l .pairs) (firstOf l) (restOf l)
 
 -- how many parts a line has room for
 abbrev pub mostParts : ℕ
@@ -95,14 +121,11 @@ pub record Tabled (r : Line) (l : claim.Line) : Type 0 where
   pub few : r .count ≤ mostParts
   pub long : length (r .parts) ≡ mostParts
 
-abbrev pub noLine : claim.Line
-noLine = record { pairs = false; parts = [] }
-
 -- the line of formula i, asked 1 or 2
 abbrev pub lineFor : Verb → Bool → ℕ → claim.Line
 lineFor Insert b i = insertion
-lineFor Delete b i = getD (deletion b) i noLine
-lineFor Modify b i = getD (modification b) i noLine
+lineFor Delete b i = getD (deletion b) i insertion
+lineFor Modify b i = getD (modification b) i insertion
 
 -- there is such a line
 abbrev pub Numbered : Verb → Bool → ℕ → Type 0
@@ -112,18 +135,28 @@ Numbered Modify b i = i < length (modification b)
 
 -- ---- what it is read under
 
-abbrev pub deedOf : Deed → claim.Deed
-deedOf d = record { condition = conditionOf (d .chosen); modes = modesOf (d .sight) }
-
 -- the machine's row past the end of an array
 abbrev pub noRow : Row
 noRow = record { values = [] }
 
--- the deed of formula i
-abbrev pub deedFor : Verb → Question → ℕ → claim.Deed
-deedFor Insert q i = putting (H.rowOf (q .shape .width) (getD (q .change .rows) i noRow))
-deedFor Delete q i = record { condition = conditionOf (q .change .condition); modes = [] }
-deedFor Modify q i = record { condition = conditionOf (q .change .condition); modes = settledModes q }
+-- the condition and the modes of formula i
+abbrev pub conditionFor : Verb → Question → C.Condition
+conditionFor Insert q = []
+conditionFor Delete q = conditionOf (q .change .condition)
+conditionFor Modify q = conditionOf (q .change .condition)
+
+abbrev pub modesFor : Verb → Question → ℕ → List Mode
+modesFor Insert q i = map become (H.rowOf (q .shape .width) (getD (q .change .rows) i noRow))
+modesFor Delete q i = []
+modesFor Modify q i = settledModes q
+
+-- the rows of a line: two, or the first
+abbrev pub rowsOf : M.Question → Bool → Bool → S.Sight
+rowsOf Q pairs i = cond (pairs && i) (F.secondSight Q) F.firstSight
+
+-- the table's words under a deed
+abbrev pub wordsOf : M.Question → Deed → claim.Reading S.Sight P.Program
+wordsOf Q d = F.programs Q (conditionOf (d .chosen)) (modesOf (d .sight))
 
 -- one row of a sight, as it is or moved
 abbrev pub viewOf : Sight → Bool → Bool → Sight
@@ -135,7 +168,7 @@ pub record Under (Q : M.Question) (d : Deed) : Type 0 where
   pub total : length (columns Q) ≡ d .sight .total
   pub visible : Q .visible ≡ visibleOf (d .sight)
   pub listed : Q .condition ≡ conditionOf (d .listed)
-  pub tests : (σ : C.Sight) → boundedAll σ (tableFrom (d .sight .first) (d .columns)) (modesOf (d .sight)) ≡ boundedAll σ (Q .changed) (modesOf (d .sight))
+  pub tests : (σ : S.Sight) → boundedAll σ (tableFrom (d .sight .first) (d .columns)) (modesOf (d .sight)) ≡ boundedAll σ (Q .changed) (modesOf (d .sight))
 
 -- it is some question's, and its sight and conditions can be read
 pub record Legible (d : Deed) : Type 0 where
@@ -148,10 +181,11 @@ pub record Legible (d : Deed) : Type 0 where
   pub chosen : Ready (Has (d .sight)) (d .chosen)
 
 -- a question's deed, as it is declared
-pub record Done (q : Question) (d : claim.Deed) (two : Bool) (r : Deed) : Type 0 where
+pub record Done (q : Question) (d : C.Condition) (ms : List Mode) (two : Bool) (r : Deed) : Type 0 where
   pub legible : Legible r
   pub under : Under (questionOf q) r
-  pub is : deedOf r ≡ d
+  pub condition : conditionOf (r .chosen) ≡ d
+  pub modes : modesOf (r .sight) ≡ ms
   pub pairs : r .pairs ≡ two
 
 -- settings that put the values in

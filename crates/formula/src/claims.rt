@@ -15,11 +15,10 @@ use sights::types::Sight;
 ghost use mathlib.Core.Path.{_≡_};
 ghost use mathlib.Core.Bool.{_&&_};
 ghost use Rattle.page_meaning.specs.Contents as meant;
-ghost use Rattle.page_meaning.specs.Claims.{staying, readPart, readParts};
-ghost use Rattle.page_formulas.specs.Costs.{movingCost, claimCost, costs, Fits};
-ghost use Rattle.page_formulas.specs.Formulas as trouble;
+ghost use Rattle.page_meaning.specs.Claims.{staying, claims, readPart, readParts};
+ghost use Rattle.page_formulas.specs.Costs.{movingCost, claimCost, partCost, Fits};
 ghost use Rattle.program.specs.Built.{programOf, Long, Room, Builds, Means};
-ghost use Rattle.formula.specs.Able.{claimOf, partOf, lineOf, deedOf, viewOf, begun, Under, Legible, Tabled};
+ghost use Rattle.formula.specs.Able.{claimOf, partOf, firstOf, restOf, lineOf, viewOf, rowsOf, wordsOf, begun, Under, Legible, Tabled};
 
 // A row's sight, as it is or moved; the first row's where there are no two.
 pub fn view(s: Sight, pairs: bool, second: bool, moved: bool) -> Sight
@@ -46,7 +45,7 @@ pub fn moves(
     second: bool,
 ) -> End
     requires { ⌜ Room (programOf (now kinds) (now left) (now right) (now most) at) (movingCost .instructions) (movingCost .places) × Legible d ⌝ }
-    ensures { λ r. ⌜ ((Q : meant.Question) → Under Q d → Builds (programOf (now (kinds .entry)) (now (left .entry)) (now (right .entry)) (now (most .entry)) at) (programOf (now (kinds .exit)) (now (left .exit)) (now (right .exit)) (now (most .exit)) r) (movingCost .instructions) (movingCost .places) (trouble.moves Q (deedOf d .condition) (deedOf d .modes) (trouble.rowSight Q (d .pairs) second))) ⌝ }
+    ensures { λ r. ⌜ ((Q : meant.Question) → Under Q d → Builds (programOf (now (kinds .entry)) (now (left .entry)) (now (right .entry)) (now (most .entry)) at) (programOf (now (kinds .exit)) (now (left .exit)) (now (right .exit)) (now (most .exit)) r) (movingCost .instructions) (movingCost .places) (wordsOf Q d .M (rowsOf Q (d .pairs) second))) ⌝ }
 {
     let s = d.sight;
     let chosen = d.chosen;
@@ -68,7 +67,7 @@ pub fn stays(
     second: bool,
 ) -> End
     requires { ⌜ Room (programOf (now kinds) (now left) (now right) (now most) at) (claimCost staying .instructions) (claimCost staying .places) × Legible d ⌝ }
-    ensures { λ r. ⌜ ((Q : meant.Question) → Under Q d → Builds (programOf (now (kinds .entry)) (now (left .entry)) (now (right .entry)) (now (most .entry)) at) (programOf (now (kinds .exit)) (now (left .exit)) (now (right .exit)) (now (most .exit)) r) (claimCost staying .instructions) (claimCost staying .places) (trouble.S Q (deedOf d .condition) (deedOf d .modes) (trouble.rowSight Q (d .pairs) second))) ⌝ }
+    ensures { λ r. ⌜ ((Q : meant.Question) → Under Q d → Builds (programOf (now (kinds .entry)) (now (left .entry)) (now (right .entry)) (now (most .entry)) at) (programOf (now (kinds .exit)) (now (left .exit)) (now (right .exit)) (now (most .exit)) r) (claimCost staying .instructions) (claimCost staying .places) (claims (wordsOf Q d) (rowsOf Q (d .pairs)) staying second)) ⌝ }
 {
     let s = d.sight;
     let listed = d.listed;
@@ -91,7 +90,7 @@ pub fn claim_of(
     second: bool,
 ) -> End
     requires { ⌜ Room (programOf (now kinds) (now left) (now right) (now most) at) (claimCost (claimOf c) .instructions) (claimCost (claimOf c) .places) × Legible d ⌝ }
-    ensures { λ r. ⌜ ((Q : meant.Question) → Under Q d → Builds (programOf (now (kinds .entry)) (now (left .entry)) (now (right .entry)) (now (most .entry)) at) (programOf (now (kinds .exit)) (now (left .exit)) (now (right .exit)) (now (most .exit)) r) (claimCost (claimOf c) .instructions) (claimCost (claimOf c) .places) (trouble.claims Q (deedOf d) (trouble.rowSight Q (d .pairs)) (claimOf c) second)) ⌝ }
+    ensures { λ r. ⌜ ((Q : meant.Question) → Under Q d → Builds (programOf (now (kinds .entry)) (now (left .entry)) (now (right .entry)) (now (most .entry)) at) (programOf (now (kinds .exit)) (now (left .exit)) (now (right .exit)) (now (most .exit)) r) (claimCost (claimOf c) .instructions) (claimCost (claimOf c) .places) (claims (wordsOf Q d) (rowsOf Q (d .pairs)) (claimOf c) second)) ⌝ }
 {
     let s = d.sight;
     let listed = d.listed;
@@ -144,8 +143,8 @@ pub fn part_of(
     d: Deed,
     p: Part,
 ) -> End
-    requires { ⌜ Room (programOf (now kinds) (now left) (now right) (now most) at) (readPart costs (partOf p) .instructions) (readPart costs (partOf p) .places) × Legible d ⌝ }
-    ensures { λ r. ⌜ ((Q : meant.Question) → Under Q d → Builds (programOf (now (kinds .entry)) (now (left .entry)) (now (right .entry)) (now (most .entry)) at) (programOf (now (kinds .exit)) (now (left .exit)) (now (right .exit)) (now (most .exit)) r) (readPart costs (partOf p) .instructions) (readPart costs (partOf p) .places) (readPart (trouble.programs Q (deedOf d) (trouble.rowSight Q (d .pairs))) (partOf p))) ⌝ }
+    requires { ⌜ Room (programOf (now kinds) (now left) (now right) (now most) at) (partCost (partOf p) .instructions) (partCost (partOf p) .places) × Legible d ⌝ }
+    ensures { λ r. ⌜ ((Q : meant.Question) → Under Q d → Builds (programOf (now (kinds .entry)) (now (left .entry)) (now (right .entry)) (now (most .entry)) at) (programOf (now (kinds .exit)) (now (left .exit)) (now (right .exit)) (now (most .exit)) r) (partCost (partOf p) .instructions) (partCost (partOf p) .places) (readPart (wordsOf Q d) (rowsOf Q (d .pairs)) (partOf p))) ⌝ }
 {
     let claim = p.claim;
     let one = claim_of(kinds, left, right, most, at, d, claim, p.second);
@@ -165,7 +164,7 @@ pub fn line_of(
     l: Line,
 ) -> End
     requires { ⌜ Long (programOf (now kinds) (now left) (now right) (now most) begun) × Legible d × Tabled l (lineOf l) × Fits (lineOf l) ⌝ }
-    ensures { λ r. ⌜ ((Q : meant.Question) → Under Q d → Means (programOf (now (kinds .exit)) (now (left .exit)) (now (right .exit)) (now (most .exit)) r) (readParts (trouble.programs Q (deedOf d) (trouble.rowSight Q (d .pairs))) (lineOf l .parts))) ⌝ }
+    ensures { λ r. ⌜ ((Q : meant.Question) → Under Q d → Means (programOf (now (kinds .exit)) (now (left .exit)) (now (right .exit)) (now (most .exit)) r) (readParts (wordsOf Q d) (rowsOf Q (d .pairs)) (firstOf l) (restOf l))) ⌝ }
 {
     let n = l.count;
     let first = l.parts[0];

@@ -18,7 +18,7 @@ ghost use Rattle.page_meaning.specs.WellFormed.{Reads};
 ghost use Rattle.question.specs.Held.{settingOf, conditionOf};
 ghost use Rattle.sights.specs.Seen.{There};
 ghost use Rattle.sights.specs.Partway.{Ready};
-ghost use Rattle.formula.specs.Able.{Able, Becomes, Buildable, deedFor, Done};
+ghost use Rattle.formula.specs.Able.{Able, Becomes, Buildable, conditionFor, modesFor, Done};
 
 // Each column becomes the row's value.
 pub fn becoming(row: Row) -> [Setting; COLUMNS]
@@ -60,7 +60,7 @@ pub fn under(
     pairs: bool,
 ) -> Deed
     requires { ⌜ Able q × (length settings ≡ mostColumns) × (modes ≤ q .shape .width) × Ready (There q) chosen × Reads (There q) (map settingOf (take modes settings)) ⌝ }
-    ensures { λ r. ⌜ Done q (record { condition = conditionOf chosen; modes = map settingOf (take modes settings) }) pairs r ⌝ }
+    ensures { λ r. ⌜ Done q (conditionOf chosen) (map settingOf (take modes settings)) pairs r ⌝ }
 {
     let columns = q.columns;
     let listed = q.condition;
@@ -85,7 +85,7 @@ pub fn under(
 // The deed of formula i: a row put in, a delete's condition, a modify.
 pub fn deed_of(q: Question, i: usize, pairs: bool) -> Deed
     requires { ⌜ Buildable (q .change .verb) q × (q .change .verb ≡ Verb.Insert → i < q .change .count) ⌝ }
-    ensures { λ r. ⌜ Done q (deedFor (q .change .verb) q i) pairs r ⌝ }
+    ensures { λ r. ⌜ Done q (conditionFor (q .change .verb) q) (modesFor (q .change .verb) q i) pairs r ⌝ }
 {
     let change = q.change;
     let verb = change.verb;

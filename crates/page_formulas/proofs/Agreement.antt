@@ -5,19 +5,19 @@ use mathlib.Core.Bool.{Bool, true, false, cond}
 use mathlib.Core.List.{List}
 use lib.Dec.{eqb}
 use lib.IntN.{pos}
-use Rattle.page_meaning.specs.Condition.{Row, meets}
-use Rattle.page_meaning.specs.Contents.{Question}
-use Rattle.page_meaning.specs.Claims.{Claim, listed, relisted, chosen, moving, staying, differing, Part, Line, Deed, modeAt, readParts, formulasBy}
-use Rattle.page_meaning.specs.Trouble.{moved, differ, one, two}
+use Rattle.page_meaning.specs.Condition.{Condition, Row, meets}
+use Rattle.page_meaning.specs.Contents.{Question, Mode}
+use Rattle.page_meaning.specs.Claims.{Part, Line, single, double, modeAt, readParts, formulasBy}
+use Rattle.page_meaning.specs.Trouble.{one, two}
 use Rattle.page_meaning.specs.Trouble as trouble
 use Rattle.page_formulas.specs.Program.{Values, run, truth}
 use Rattle.page_formulas.specs.Compile.{Sight}
 use Rattle.page_formulas.specs.Parts.{conditionProgram}
-use Rattle.page_formulas.specs.Formulas.{Formula, firstSight, secondSight, rowSight, after, oneRow, twoRows, boundedAll, differs, C, moves, claims, programs, formula, irrelevance, computability, formulas}
+use Rattle.page_formulas.specs.Formulas.{Formula, firstSight, secondSight, oneRow, twoRows, boundedAll, programs, formula, irrelevance, computability, formulas}
 use Rattle.page_formulas.proofs.Compiles.{run-append, Sees}
 use Rattle.page_formulas.proofs.Pieces.{Pushes, pushes-truth, pushes-and, pushes-or, pushes-not, pushes-condition}
 use Rattle.page_formulas.proofs.Usable.{Exists, Doable, Usable, deeds-doable}
-use Rattle.page_formulas.proofs.Readings.{match-parts, Matched, match-formulas}
+use Rattle.page_formulas.proofs.Readings.{Match, match-parts, Matched, match-formulas}
 use Rattle.page_formulas.proofs.Sights.{after-sees, boundedAll-is, differsOver-is}
 
 -- the program's truth is the test's, on the rows that ρ shows
@@ -42,61 +42,50 @@ module _ (q : Question) where
   abbrev pub troubles : ℕ → List trouble.Formula
   troubles asked = cond (eqb asked 1) (trouble.irrelevance q (q .change)) (trouble.computability q (q .change))
 
--- ---- one law a claim
+-- ---- one law a word
 
--- ρ shows both rows, each by its sight
-module _ (q : Question) (k : Usable q) (ρ : Values) (z : ρ 0 ≡ pos 0) (d : Deed) (u : Doable q d) (σ : Bool → Sight) (r : Bool → Row) (sees : (i : Bool) → Sees (Exists q) ρ (σ i) (r i)) where
-  new-sees : (i : Bool) → Sees (Exists q) ρ (after q (d .modes) (σ i)) (moved q (d .modes) (r i))
-  new-sees i = after-sees (Exists q) ρ z (σ i) (r i) (sees i) q (d .modes) (u .reads)
+module _ (q : Question) (k : Usable q) (ρ : Values) (z : ρ 0 ≡ pos 0) (d : Condition) (ms : List Mode) (u : Doable q d ms) where
+  abbrev Seen : Sight → Row → Type 0
+  Seen σ r = Sees (Exists q) ρ σ r
 
-  C-is : (τ : Sight) (s : Row) → Sees (Exists q) ρ τ s → Pushes ρ (C q τ) (trouble.C q s)
-  C-is τ s o = pushes-condition (Exists q) ρ z τ s o (q .condition) (k .uses) (k .shaped)
+  D-is : (σ : Sight) (r : Row) → Seen σ r → Pushes ρ (conditionProgram σ d) (meets d r)
+  D-is σ r o = pushes-condition (Exists q) ρ z σ r o d (u .uses) (u .shaped)
 
-  D-is : (i : Bool) → Pushes ρ (conditionProgram (σ i) (d .condition)) (meets (d .condition) (r i))
-  D-is i = pushes-condition (Exists q) ρ z (σ i) (r i) (sees i) (d .condition) (u .uses) (u .shaped)
-
-  M-is : (i : Bool) → Pushes ρ (moves q (d .condition) (d .modes) (σ i)) (trouble.moves q (d .condition) (d .modes) (r i))
-  M-is i = let tests = boundedAll (σ i) (q .changed) (d .modes) in
-      record { runs = λ st. run-append ρ (conditionProgram (σ i) (d .condition)) tests st ∙ ap (run ρ tests) (D-is i .runs st) ∙ boundedAll-is (Exists q) ρ z (σ i) (r i) (sees i) (q .changed) (d .modes) (u .reads) (meets (d .condition) (r i)) st }
-
-  differs-is : (i : Bool) (τ : Sight) (s : Row) → Sees (Exists q) ρ τ s → Pushes ρ (differs q (d .modes) (after q (d .modes) (σ i)) τ) (differ q (d .modes) (moved q (d .modes) (r i)) s)
-  unfolding run differ
-  differs-is i τ s o = record { runs = λ st. differsOver-is (Exists q) ρ z _ τ _ s (new-sees i) o (modeAt q (d .modes)) (q .visible) (k .visible) false st }
-
-  claim-is : (c : Claim) (i : Bool) → Pushes ρ (claims q d σ c i) (trouble.claims q d r c i)
-  claim-is listed i = C-is (σ i) (r i) (sees i)
-  claim-is relisted i = C-is _ _ (new-sees i)
-  claim-is chosen i = D-is i
-  claim-is moving i = M-is i
-  claim-is staying i = pushes-or ρ (pushes-not ρ (M-is i)) (C-is _ _ (new-sees i))
-  claim-is (differing j true) i = differs-is i _ _ (new-sees j)
-  claim-is (differing j false) i = differs-is i _ _ (sees j)
-
-  parts-are : (ps : List Part) → truth ρ (readParts (programs q d σ) ps) ≡ readParts (trouble.tests q d r) ps
+  words-agree : Match Seen Seen (Pushes ρ) (programs q d ms) (trouble.tests q d ms)
   unfolding run
-  parts-are ps = pushes-truth ρ (match-parts (Pushes ρ) {x = programs q d σ} {y = trouble.tests q d r} (record { claims = claim-is; deny = pushes-not ρ; both = pushes-and ρ; nothing = record { runs = λ st. refl } }) ps)
+  words-agree = record {
+    same = λ σ r o. o;
+    F = λ σ r o. after-sees (Exists q) ρ z σ r o q ms (u .reads);
+    C = λ σ r o. pushes-condition (Exists q) ρ z σ r o (q .condition) (k .uses) (k .shaped);
+    D = D-is;
+    M = λ σ r o. let ranges = boundedAll σ (q .changed) ms in
+        record { runs = λ st. run-append ρ (conditionProgram σ d) ranges st ∙ ap (run ρ ranges) (D-is σ r o .runs st) ∙ boundedAll-is (Exists q) ρ z σ r o (q .changed) ms (u .reads) (meets d r) st };
+    differ = λ σ τ r s o p. record { runs = λ st. differsOver-is (Exists q) ρ z σ τ r s o p (modeAt q ms) (q .visible) (k .visible) false st };
+    deny = pushes-not ρ;
+    both = pushes-and ρ;
+    either = pushes-or ρ;
+  }
+
+  parts-agree : (σ : Bool → Sight) (r : Bool → Row) → ((i : Bool) → Seen (σ i) (r i)) → (p : Part) (ps : List Part) → truth ρ (readParts (programs q d ms) σ p ps) ≡ readParts (trouble.tests q d ms) r p ps
+  parts-agree σ r o p ps = pushes-truth ρ (match-parts Seen Seen (Pushes ρ) words-agree σ r o p ps)
 
 -- ---- lines, and the lists
 
 module _ (q : Question) (k : Usable q) where
-  line-agrees : (d : Deed) → Doable q d → (l : Line) → Agrees q (trouble.formula q d l) (formula q d l)
-  line-agrees d u l = go (l .pairs)
-    where
-      both-seen : (ρ : Values) (r s : Row) → Sees (Exists q) ρ firstSight r → Sees (Exists q) ρ (secondSight q) s → (i : Bool) → Sees (Exists q) ρ (rowSight q true i) (cond i s r)
-      both-seen ρ r s o p true = p
-      both-seen ρ r s o p false = o
+  both-seen : (ρ : Values) (r s : Row) → Sees (Exists q) ρ firstSight r → Sees (Exists q) ρ (secondSight q) s → (i : Bool) → Sees (Exists q) ρ (cond i (secondSight q) firstSight) (cond i s r)
+  both-seen ρ r s o p true = p
+  both-seen ρ r s o p false = o
 
-      go : (b : Bool) → let p = readParts (programs q d (rowSight q b)) (l .parts) in
-          Agrees q (cond b (two (λ r s. readParts (trouble.tests q d (λ i. cond i s r)) (l .parts))) (one (λ r. readParts (trouble.tests q d (λ i. r)) (l .parts)))) (cond b (twoRows q p) (oneRow q p))
-      go true = record { is = refl; means = λ ρ z r s o p. parts-are q k ρ z d u (rowSight q true) (λ i. cond i s r) (both-seen ρ r s o p) (l .parts) }
-      go false = record { is = refl; means = λ ρ z r o. parts-are q k ρ z d u (rowSight q false) (λ i. r) (λ i. o) (l .parts) }
+  line-agrees : (d : Condition) (ms : List Mode) → Doable q d ms → (l : Line) → Agrees q (trouble.formula q d ms l) (formula q d ms l)
+  line-agrees d ms u (single p ps) = record { is = refl; means = λ ρ z r o. parts-agree q k ρ z d ms u (λ i. firstSight) (λ i. r) (λ i. o) p ps }
+  line-agrees d ms u (double p ps) = record { is = refl; means = λ ρ z r s o t. parts-agree q k ρ z d ms u (λ i. cond i (secondSight q) firstSight) (λ i. cond i s r) (both-seen ρ r s o t) p ps }
 
   -- the formulas asked for are the trouble list's, one by one
   pub formulas-agree : (asked : ℕ) → AgreeAll q (troubles q asked) (formulas q asked)
   formulas-agree asked = go (eqb asked 1)
     where
       all : (b : Bool) → AgreeAll q (formulasBy (trouble.formula q) q (q .change) b) (formulasBy (formula q) q (q .change) b)
-      all = match-formulas (Agrees q) (trouble.formula q) (formula q) (Doable q) (λ d u l f. line-agrees d u l) q (q .change) (deeds-doable q (q .change) (k .change))
+      all = match-formulas (Agrees q) (trouble.formula q) (formula q) (Doable q) (λ d ms u l f. line-agrees d ms u l) q (q .change) (deeds-doable q (q .change) (k .change))
 
       go : (b : Bool) → AgreeAll q (cond b (trouble.irrelevance q (q .change)) (trouble.computability q (q .change))) (cond b (irrelevance q (q .change)) (computability q (q .change)))
       go true = all true

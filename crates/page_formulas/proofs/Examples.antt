@@ -9,7 +9,7 @@ use Rattle.page_meaning.specs.Condition.{Condition, compare, both, equal, atLea
 use Rattle.page_meaning.specs.Contents.{Question, Change, insert, modify, Mode, keep, shift, Range}
 use Rattle.page_formulas.specs.Program.{Instr, place, andI}
 use Rattle.page_formulas.specs.Compile.{compile}
-use Rattle.page_formulas.specs.Formulas.{firstSight, secondSight, among, after, boundedAll, C, moves, formulas}
+use Rattle.page_formulas.specs.Formulas.{firstSight, secondSight, among, after, boundedAll, programs, formulas}
 
 abbrev upTo : ℕ → Range
 upTo top = record { lo = pos 0; hi = pos top }
@@ -41,11 +41,11 @@ where10 = compare atLeast 1 (constant (pos 10)) ∷ []
 abbrev less8 : List Mode
 less8 = keep ∷ shift 1 (negsuc 7) ∷ []
 
-case-j-M : moves (asking (modify where10 less8)) where10 less8 firstSight ≡ at 0 2 (negsuc 9) ∷ at 2 0 (pos 38) ∷ andI ∷ at 0 2 (negsuc 7) ∷ andI ∷ []
+case-j-M : programs (asking (modify where10 less8)) where10 less8 .M firstSight ≡ at 0 2 (negsuc 9) ∷ at 2 0 (pos 38) ∷ andI ∷ at 0 2 (negsuc 7) ∷ andI ∷ []
 unfolding compile boundedAll
 case-j-M = refl
 
 -- C of the second row: its hidden V and Q are vertices 6 and 8, its K is the first row's
-case-j-C2 : C (asking (modify where10 less8)) (secondSight (asking (modify where10 less8))) ≡ at 1 8 (pos 0) ∷ at 8 1 (pos 0) ∷ andI ∷ at 0 6 (negsuc 9) ∷ andI ∷ []
+case-j-C2 : programs (asking (modify where10 less8)) where10 less8 .C (secondSight (asking (modify where10 less8))) ≡ at 1 8 (pos 0) ∷ at 8 1 (pos 0) ∷ andI ∷ at 0 6 (negsuc 9) ∷ andI ∷ []
 unfolding compile among
 case-j-C2 = refl

@@ -9,10 +9,10 @@ use Rattle.page_meaning.specs.Condition.{Op, less, atMost, equal, atLeast, more
 use Rattle.page_meaning.specs.Contents.{Table, Mode, keep, become, shift}
 use Rattle.page_meaning.specs.Claims.{kept}
 use Rattle.page_questions.specs.Accepted.{leavesOne, ConditionOk}
-use Rattle.page_formulas.specs.Program.{Program, Term, orI, trueI, falseI}
+use Rattle.page_formulas.specs.Program.{Program, Instr, Term, orI, falseI}
 use Rattle.page_formulas.specs.Kinds.{kindOf, kindsOf}
 use Rattle.page_formulas.specs.Compile.{Sight, comparison, constantTerm, plus, sideTerm, compile}
-use Rattle.page_formulas.specs.Parts.{_and_, _or_, denied, conditionProgram}
+use Rattle.page_formulas.specs.Parts.{joined, denied, conditionProgram}
 use Rattle.page_formulas.specs.Formulas.{bounded, boundedAll, differsNew, differsOver}
 use Rattle.page_formulas.specs.Form.{arity, Rises}
 
@@ -33,13 +33,9 @@ unfolding Rises kindsOf
 lifts-then h k g [] r x y = rw x y
 lifts-then h k g (i ∷ p) r x y = (x .0, lifts-then (suc (h - arity (kindOf i))) k g p r (x .1) y)
 
-pub pushes-and : {p r : Program} → Pushes p → Pushes r → Pushes (p and r)
+pub pushes-joined : (i : Instr) → arity (kindOf i) ≡ 2 → {p r : Program} → Pushes p → Pushes r → Pushes (joined i p r)
 unfolding Rises kindsOf
-pushes-and {p} {r} x y = record { on = λ h. lifts-then h (suc h) (suc h) p _ (x .on h) (lifts-then (suc h) (suc (suc h)) (suc h) r _ (y .on (suc h)) (omega arith, omega arith)) }
-
-pub pushes-or : {p r : Program} → Pushes p → Pushes r → Pushes (p or r)
-unfolding Rises kindsOf
-pushes-or {p} {r} x y = record { on = λ h. lifts-then h (suc h) (suc h) p _ (x .on h) (lifts-then (suc h) (suc (suc h)) (suc h) r _ (y .on (suc h)) (omega arith, omega arith)) }
+pushes-joined i e {p} {r} x y = record { on = λ h. lifts-then h (suc h) (suc h) p _ (x .on h) (lifts-then (suc h) (suc (suc h)) (suc h) r _ (y .on (suc h)) (omega arith, omega arith)) }
 
 pub pushes-not : {p : Program} → Pushes p → Pushes (denied p)
 unfolding Rises kindsOf
@@ -57,7 +53,7 @@ comparison-pushes atLeast l r h = (omega arith, omega arith)
 comparison-pushes more l r h = (omega arith, omega arith)
 comparison-pushes unequal l r h = (omega arith, (omega arith, (omega arith, (omega arith, omega arith))))
 
--- "one value is left"
+-- in the end one truth is left (FORMAT 2.1)
 compile-lifts : (σ : Sight) (c : Condition) (a h k : ℕ) → k ≡ a + h → T (leavesOne a c) → Lifts k (compile σ c) (suc h)
 unfolding Rises kindsOf compile leavesOne
 compile-lifts σ [] zero h k e t = absurd t
@@ -73,13 +69,9 @@ compile-lifts σ (either ∷ c) (suc (suc a)) h k e t = (omega arith, compile-li
 compile-lifts σ (negate ∷ c) zero h k e t = absurd t
 compile-lifts σ (negate ∷ c) (suc a) h k e t = (omega arith, compile-lifts σ c (suc a) h (suc (k - 1)) (omega arith) t)
 
-pub true-pushes : Pushes (trueI ∷ [])
-unfolding Rises kindsOf
-true-pushes = record { on = λ h. (omega arith, omega arith) }
-
 pub condition-pushes : (σ : Sight) (c : Condition) → ConditionOk c → Pushes (conditionProgram σ c)
 unfolding Rises kindsOf
-condition-pushes σ [] o = true-pushes
+condition-pushes σ [] o = record { on = λ h. (omega arith, omega arith) }
 condition-pushes σ (t ∷ ts) o = record { on = λ h. compile-lifts σ (t ∷ ts) 0 h h (omega arith) (o .shaped) }
 
 -- ---- range tests and comparisons of rows, each joined to what stands before it
@@ -105,7 +97,7 @@ unfolding Rises kindsOf differsOver
 over-lifts mode σ τ h [] = refl
 over-lifts mode σ τ h (i ∷ is) = lifts-then (suc h) (suc h) (suc h) (differsNew (mode i) (σ i) (τ i)) (differsOver mode σ τ is) (differs-lifts (σ i) (τ i) h (kept (mode i))) (over-lifts mode σ τ h is)
 
--- "false if there is none"
+-- false if no column may differ
 pub pushes-differs : (mode : ℕ → Mode) (σ τ : Sight) (is : List ℕ) → Pushes (falseI ∷ differsOver mode σ τ is)
 unfolding Rises kindsOf
 pushes-differs mode σ τ is = record { on = λ h. lifts-then h (suc h) (suc h) (falseI ∷ []) (differsOver mode σ τ is) (omega arith, omega arith) (over-lifts mode σ τ h is) }

@@ -7,7 +7,8 @@ use lib.Dec.{T}
 use lib.IntN.{ℤ}
 use Rattle.page_meaning.specs.Condition.{Row}
 use Rattle.page_meaning.specs.Contents.{Question, keep, become, Values, columns, columnsOf, first, look, fits, newValue}
-use Rattle.page_meaning.specs.Trouble.{moved, put}
+use Rattle.page_meaning.specs.Trouble.{moved}
+use Rattle.page_meaning.proofs.Words.{put}
 use Rattle.page_meaning.specs.Witness.{cut}
 use Rattle.page_meaning.proofs.Moving.{fits-length, put-same}
 use Rattle.page_meaning.proofs.Tables.{fits-append, cut-values, cut-fits}

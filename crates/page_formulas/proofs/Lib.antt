@@ -3,6 +3,7 @@ pub mod Pieces
 pub mod Knows
 pub mod Usable
 pub mod Readings
+pub mod Rooms
 pub mod Sights
 pub mod Agreement
 pub mod Rows
@@ -14,4 +15,5 @@ pub mod Forms
 pub mod Proper
 pub mod Examples
 pub mod Cases
+pub mod Chains
 pub mod Trees

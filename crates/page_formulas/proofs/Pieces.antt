@@ -12,7 +12,7 @@ use Rattle.page_meaning.specs.WellFormed.{Uses}
 use Rattle.page_questions.specs.Accepted.{leavesOne, Shaped}
 use Rattle.page_formulas.specs.Program.{Values, andI, orI, notI, Program, run, top, truth}
 use Rattle.page_formulas.specs.Compile.{Sight}
-use Rattle.page_formulas.specs.Parts.{_and_, _or_, denied, conditionProgram}
+use Rattle.page_formulas.specs.Parts.{joined, denied, conditionProgram}
 use Rattle.page_formulas.proofs.Compiles.{run-append, Sees, compile-is}
 
 pub record Pushes (ρ : Values) (p : Program) (b : Bool) : Type 0 where
@@ -23,16 +23,16 @@ module _ (ρ : Values) where
   pushes-truth p = ap top (p .runs [])
 
   -- two parts, then what joins them
-  joined : (p r e : Program) {a b : Bool} → Pushes ρ p a → Pushes ρ r b → (st : List Bool) → run ρ (p ++ (r ++ e)) st ≡ run ρ e (b ∷ (a ∷ st))
-  joined p r e {a} x y st = run-append ρ p (r ++ e) st ∙ ap (run ρ (r ++ e)) (x .runs st) ∙ run-append ρ r e (a ∷ st) ∙ ap (run ρ e) (y .runs (a ∷ st))
+  two-run : (p r e : Program) {a b : Bool} → Pushes ρ p a → Pushes ρ r b → (st : List Bool) → run ρ (p ++ (r ++ e)) st ≡ run ρ e (b ∷ (a ∷ st))
+  two-run p r e {a} x y st = run-append ρ p (r ++ e) st ∙ ap (run ρ (r ++ e)) (x .runs st) ∙ run-append ρ r e (a ∷ st) ∙ ap (run ρ e) (y .runs (a ∷ st))
 
-  pub pushes-and : {p r : Program} {a b : Bool} → Pushes ρ p a → Pushes ρ r b → Pushes ρ (p and r) (a && b)
+  pub pushes-and : {p r : Program} {a b : Bool} → Pushes ρ p a → Pushes ρ r b → Pushes ρ (joined andI p r) (a && b)
   unfolding run
-  pushes-and {p} {r} x y = record { runs = joined p r (andI ∷ []) x y }
+  pushes-and {p} {r} x y = record { runs = two-run p r (andI ∷ []) x y }
 
-  pub pushes-or : {p r : Program} {a b : Bool} → Pushes ρ p a → Pushes ρ r b → Pushes ρ (p or r) (a || b)
+  pub pushes-or : {p r : Program} {a b : Bool} → Pushes ρ p a → Pushes ρ r b → Pushes ρ (joined orI p r) (a || b)
   unfolding run
-  pushes-or {p} {r} x y = record { runs = joined p r (orI ∷ []) x y }
+  pushes-or {p} {r} x y = record { runs = two-run p r (orI ∷ []) x y }
 
   pub pushes-not : {p : Program} {a : Bool} → Pushes ρ p a → Pushes ρ (denied p) (not a)
   unfolding run

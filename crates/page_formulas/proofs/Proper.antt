@@ -1,6 +1,6 @@
 -- Every formula of an accepted question is proper: few vertices, small ranges, places between its vertices with small constants,
--- "At most 120 places", and a program that fits the code's room.
-use Prim.Native.Nat.{ℕ, suc, _+_, _*_, _≤_}
+-- few places (FORMAT 7.3), and a program that fits the code's room.
+use Prim.Native.Nat.{ℕ, suc, _+_, _*_, _≤_, _<_}
 use mathlib.Core.Path.{refl}
 use mathlib.Core.Bool.{Bool, true, false, cond}
 use mathlib.Core.Option.{some}
@@ -11,24 +11,25 @@ use lib.Dec.{T, eqb}
 use lib.IntN.{ℤ}
 use lib.Signed.{_≤ℤ_, leZ}
 use Rattle.page_numbers.proofs.Bridge.{ints}
-use Rattle.page_meaning.specs.Limits.{mostColumns, mostDecisions}
-use Rattle.page_meaning.specs.Contents.{Question, Change, insert, delete, modify, become, Range, columns, columnsOf, fits, inRange}
+use Rattle.page_meaning.specs.Limits.{mostColumns, mostVertices, mostDecisions}
+use Rattle.page_meaning.specs.Condition.{Condition}
+use Rattle.page_meaning.specs.Contents.{Question, Change, insert, delete, modify, Mode, become, Range, columns, columnsOf, fits, inRange}
 use Rattle.page_meaning.specs.Contents as M
-use Rattle.page_meaning.specs.Claims.{Claim, listed, relisted, chosen, moving, staying, differing, Part, Line, Deed, modeAt, readParts, formulasBy}
-use Rattle.page_meaning.specs.WellFormed.{ChangeOk}
+use Rattle.page_meaning.specs.Claims.{Part, Line, single, double, modeAt, readParts, formulasBy}
+use Rattle.page_meaning.specs.WellFormed.{Uses, ChangeOk}
 use Rattle.page_meaning.proofs.Truth.{and-l, and-r}
 use Rattle.page_questions.specs.Accepted.{Every, RangeOk, ConstantOk, ConditionOk, ModeOk, ChangeAccepted, Ascending, Accepted}
-use Rattle.page_formulas.specs.Program.{Program, places, trueI, falseI}
+use Rattle.page_formulas.specs.Program.{Program, places, andI, orI, falseI}
 use Rattle.page_formulas.specs.Compile.{Sight}
-use Rattle.page_formulas.specs.Parts.{_and_, _or_, denied, conditionProgram}
+use Rattle.page_formulas.specs.Parts.{conditionProgram}
 use Rattle.page_formulas.specs.Vertices.{Ranges}
-use Rattle.page_formulas.specs.Formulas.{rowSight, after, firstRanges, hiddenRanges, bothRanges, oneRow, twoRows, boundedAll, differsOver, differs, C, moves, claims, programs, formula, irrelevance, computability, formulas}
-use Rattle.page_formulas.specs.Costs.{Cost, conditionCost, movingCost, differingCost, deniedCost, joinedCost, claimCost, costs, mostInstructions, Fits}
+use Rattle.page_formulas.specs.Formulas.{Formula, firstSight, secondSight, firstRanges, hiddenRanges, bothRanges, boundedAll, differsOver, programs, formula, irrelevance, computability, formulas}
+use Rattle.page_formulas.specs.Costs.{Cost, conditionCost, costs, mostInstructions, Fits}
 use Rattle.page_formulas.specs.Proper.{large, Nonempty, SmallRange, Proper}
 use Rattle.page_formulas.proofs.Usable.{Exists, Deeds, Doable, Usable, usable, deeds-doable}
-use Rattle.page_formulas.proofs.Readings.{match-parts, every-formula}
-use Rattle.page_formulas.proofs.Sizes.{Sized, size-append, size-most, size-join, size-and, size-or, size-not, SmallSight, range-size, size-condition, size-boundedAll, size-differsOver}
-use Rattle.page_formulas.proofs.Forms.{Pushes, pushes-and, pushes-or, pushes-not, pushes-more, condition-pushes, true-pushes, keeps-bounded, pushes-differs}
+use Rattle.page_formulas.proofs.Readings.{Match, match-parts, every-formula}
+use Rattle.page_formulas.proofs.Sizes.{Sized, size-append, size-most, size-join, size-joined, size-not, SmallSight, range-size, size-condition, size-boundedAll, size-differsOver}
+use Rattle.page_formulas.proofs.Forms.{Pushes, pushes-joined, pushes-not, pushes-more, condition-pushes, keeps-bounded, pushes-differs}
 use Rattle.page_formulas.proofs.Present.{first-every, both-every, hidden-length, first-in-one, first-in-both, second-in-both, after-small}
 
 -- a part: its size, and that it pushes one value
@@ -36,21 +37,11 @@ pub record Measured (rs : Ranges) (p : Program) (c : Cost) : Type 0 where
   pub sized : Sized rs p (c .places) (c .instructions)
   pub pushes : Pushes p
 
-module _ {rs : Ranges} where
-  measured-not : {p : Program} {c : Cost} → Measured rs p c → Measured rs (denied p) (deniedCost c)
-  measured-not x = record { sized = size-not rs (x .sized); pushes = pushes-not (x .pushes) }
-
-  measured-and : {p r : Program} {c e : Cost} → Measured rs p c → Measured rs r e → Measured rs (p and r) (joinedCost c e)
-  measured-and x y = record { sized = size-and rs (x .sized) (y .sized); pushes = pushes-and (x .pushes) (y .pushes) }
-
-  measured-or : {p r : Program} {c e : Cost} → Measured rs p c → Measured rs r e → Measured rs (p or r) (joinedCost c e)
-  measured-or x y = record { sized = size-or rs (x .sized) (y .sized); pushes = pushes-or (x .pushes) (y .pushes) }
-
--- what an accepted question says of its deeds
-pub record Sound (q : Question) (d : Deed) : Type 0 where
-  pub doable : Doable q d
-  pub condition : ConditionOk (d .condition)
-  pub modes : Every ModeOk (d .modes)
+-- what an accepted question says of what its formulas are read under
+pub record Sound (q : Question) (d : Condition) (ms : List Mode) : Type 0 where
+  pub doable : Doable q d ms
+  pub condition : ConditionOk d
+  pub modes : Every ModeOk ms
 
 every-left : {A : Type 0} (P : A → Type 0) (a b : List A) → Every P (a ++ b) → Every P a
 every-left P [] b h = tt
@@ -77,80 +68,57 @@ module _ (q : Question) (a : Accepted q) where
   visible-few : length (q .visible) ≤ mostColumns
   visible-few = omega (arith, ascending-short 0 (length (columns q)) (q .visible) (omega arith) (a .visible), a .fewColumns)
 
-  -- ---- one law a claim, in a formula with ranges rs
+  -- ---- one law a word, in a formula with ranges rs
 
-  module _ (rs : Ranges) (d : Deed) (o : Sound q d) (σ : Bool → Sight) (x : (i : Bool) → SmallSight rs (Exists q) 0 (σ i)) where
-    wide : (i : Bool) → SmallSight rs (Exists q) large (σ i)
-    wide i j h = let y = x i j h in record { is = y .is; high = omega (arith, y .high); low = omega (arith, y .low) }
+  module _ (rs : Ranges) (d : Condition) (ms : List Mode) (o : Sound q d ms) where
+    abbrev Small : ℕ → Sight → Unit {0} → Type 0
+    Small B σ t = SmallSight rs (Exists q) B σ
 
-    new-wide : (i : Bool) → SmallSight rs (Exists q) large (after q (d .modes) (σ i))
-    new-wide i = after-small q rs (σ i) (x i) (d .modes) (o .modes) (o .doable .reads)
+    condition-size : (B : ℕ) → B ≤ large → (σ : Sight) → SmallSight rs (Exists q) B σ → (c : Condition) → Uses (Exists q) c → ConditionOk c → Measured rs (conditionProgram σ c) conditionCost
+    condition-size B h σ x c u ok = record { sized = size-condition rs (Exists q) B h σ x c u ok; pushes = condition-pushes σ c ok }
 
-    C-size : (τ : Sight) → SmallSight rs (Exists q) large τ → Measured rs (C q τ) conditionCost
-    C-size τ y = record { sized = size-condition rs (Exists q) large (omega arith) τ y (q .condition) (fine .uses) (a .condition); pushes = condition-pushes τ (q .condition) (a .condition) }
-
-    D-size : (i : Bool) → Measured rs (conditionProgram (σ i) (d .condition)) conditionCost
-    D-size i = record { sized = size-condition rs (Exists q) 0 (omega arith) (σ i) (x i) (d .condition) (o .doable .uses) (o .condition); pushes = condition-pushes (σ i) (d .condition) (o .condition) }
-
-    M-size : (i : Bool) → Measured rs (moves q (d .condition) (d .modes) (σ i)) movingCost
-    M-size i = let tests = size-boundedAll rs (Exists q) 0 (omega arith) (σ i) (x i) (q .changed) (d .modes) changed-ranges (o .modes) (o .doable .reads) in
-        record {
-          sized = size-append rs (conditionProgram (σ i) (d .condition)) (boundedAll (σ i) (q .changed) (d .modes)) (D-size i .sized) (size-most rs (2 * mostColumns) (4 * mostColumns) tests (omega (arith, changed-few)) (omega (arith, changed-few)));
-          pushes = pushes-more (D-size i .pushes) (keeps-bounded (σ i) (q .changed) (d .modes));
-        }
-
-    differs-size : (i : Bool) (τ : Sight) → SmallSight rs (Exists q) large τ → Measured rs (differs q (d .modes) (after q (d .modes) (σ i)) τ) differingCost
+    words-fit : Match (Small 0) (Small large) (Measured rs) (programs q d ms) costs
     unfolding places
-    differs-size i τ y = let F = after q (d .modes) (σ i) in let columns = size-differsOver rs (Exists q) F τ (new-wide i) y (modeAt q (d .modes)) (q .visible) (fine .visible) in
-        record {
-          sized = size-most rs (2 * mostColumns) (5 * mostColumns + 1) (size-append rs (falseI ∷ []) (differsOver (modeAt q (d .modes)) F τ (q .visible)) (size-join rs falseI refl) columns) (omega (arith, visible-few)) (omega (arith, visible-few));
-          pushes = pushes-differs (modeAt q (d .modes)) F τ (q .visible);
-        }
+    words-fit = record {
+      same = λ σ t x j h. let y = x j h in record { is = y .is; high = omega (arith, y .high); low = omega (arith, y .low) };
+      F = λ σ t x. after-small q rs σ x ms (o .modes) (o .doable .reads);
+      C = λ σ t x. condition-size large (omega arith) σ x (q .condition) (fine .uses) (a .condition);
+      D = λ σ t x. condition-size 0 (omega arith) σ x d (o .doable .uses) (o .condition);
+      M = λ σ t x.
+          let c = condition-size 0 (omega arith) σ x d (o .doable .uses) (o .condition) in
+          let r = size-boundedAll rs (Exists q) 0 (omega arith) σ x (q .changed) ms changed-ranges (o .modes) (o .doable .reads) in
+          record { sized = size-append rs (conditionProgram σ d) (boundedAll σ (q .changed) ms) (c .sized) (size-most rs (2 * mostColumns) (4 * mostColumns) r (omega (arith, changed-few)) (omega (arith, changed-few))); pushes = pushes-more (c .pushes) (keeps-bounded σ (q .changed) ms) };
+      differ = λ σ τ t u x y.
+          let r = size-differsOver rs (Exists q) σ τ x y (modeAt q ms) (q .visible) (fine .visible) in
+          record { sized = size-most rs (2 * mostColumns) (5 * mostColumns + 1) (size-append rs (falseI ∷ []) (differsOver (modeAt q ms) σ τ (q .visible)) (size-join rs falseI refl) r) (omega (arith, visible-few)) (omega (arith, visible-few)); pushes = pushes-differs (modeAt q ms) σ τ (q .visible) };
+      deny = λ x. record { sized = size-not rs (x .sized); pushes = pushes-not (x .pushes) };
+      both = λ x y. record { sized = size-joined rs andI refl (x .sized) (y .sized); pushes = pushes-joined andI refl (x .pushes) (y .pushes) };
+      either = λ x y. record { sized = size-joined rs orI refl (x .sized) (y .sized); pushes = pushes-joined orI refl (x .pushes) (y .pushes) };
+    }
 
-    claim-size : (c : Claim) (i : Bool) → Measured rs (claims q d σ c i) (claimCost c)
-    claim-size listed i = C-size (σ i) (wide i)
-    claim-size relisted i = C-size _ (new-wide i)
-    claim-size chosen i = D-size i
-    claim-size moving i = M-size i
-    claim-size staying i = measured-or (measured-not (M-size i)) (C-size _ (new-wide i))
-    claim-size (differing j true) i = differs-size i _ (new-wide j)
-    claim-size (differing j false) i = differs-size i _ (wide j)
-
-    parts-size : (ps : List Part) → Measured rs (readParts (programs q d σ) ps) (readParts costs ps)
-    unfolding places
-    parts-size ps = match-parts (Measured rs) {x = programs q d σ} {y = costs} (record { claims = claim-size; deny = measured-not; both = measured-and; nothing = record { sized = size-join rs trueI refl; pushes = true-pushes } }) ps
+    parts-fit : (σ : Bool → Sight) → ((i : Bool) → SmallSight rs (Exists q) 0 (σ i)) → (p : Part) (ps : List Part) → Measured rs (readParts (programs q d ms) σ p ps) (readParts costs (λ i. tt) p ps)
+    parts-fit σ x p ps = match-parts (Small 0) (Small large) (Measured rs) words-fit σ (λ i. tt) x p ps
 
   -- ---- whole formulas
 
   some-range : (g : Range) → RangeOk g → Nonempty (some g)
   some-range g r = r .ordered
 
-  both-small : (i : Bool) → SmallSight (bothRanges q) (Exists q) 0 (rowSight q true i)
+  both-small : (i : Bool) → SmallSight (bothRanges q) (Exists q) 0 (cond i (secondSight q) firstSight)
   both-small true = second-in-both q
   both-small false = first-in-both q
 
-  line-proper : (d : Deed) → Sound q d → (l : Line) → Fits l → Proper (formula q d l)
-  line-proper d o l f = go (l .pairs)
-    where
-      go : (b : Bool) → let p = readParts (programs q d (rowSight q b)) (l .parts) in Proper (cond b (twoRows q p) (oneRow q p))
-      go true = let x = parts-size (bothRanges q) d o (rowSight q true) both-small (l .parts) in record {
-        vertices = omega (arith, length-append (firstRanges (columns q)) (hiddenRanges (q .visible) 0 (columns q)), length-map (columns q) some, hidden-length (q .visible) 0 (columns q), a .fewColumns);
-        ranges-small = both-every SmallRange tt range-size (q .visible) (columns q) (columns q) (a .ranges) (a .ranges);
-        ranges-some = both-every Nonempty tt some-range (q .visible) (columns q) (columns q) (a .ranges) (a .ranges);
-        places-small = x .sized .small;
-        few-places = omega (arith, x .sized .few, f .places);
-        short = omega (arith, x .sized .short, f .instructions);
-        formed = x .pushes .on 0;
-      }
-      go false = let x = parts-size (firstRanges (columns q)) d o (rowSight q false) (λ i. first-in-one q) (l .parts) in record {
-        vertices = omega (arith, length-map (columns q) some, a .fewColumns);
-        ranges-small = first-every SmallRange tt range-size (columns q) (a .ranges);
-        ranges-some = first-every Nonempty tt some-range (columns q) (a .ranges);
-        places-small = x .sized .small;
-        few-places = omega (arith, x .sized .few, f .places);
-        short = omega (arith, x .sized .short, f .instructions);
-        formed = x .pushes .on 0;
-      }
+  proper-by : {F : Formula} {c : Cost} → length (F .ranges) < mostVertices → Every SmallRange (F .ranges) → Every Nonempty (F .ranges) → Measured (F .ranges) (F .program) c → c .places ≤ mostDecisions → c .instructions ≤ mostInstructions → Proper F
+  proper-by v s n x p i = record { vertices = v; ranges-small = s; ranges-some = n; places-small = x .sized .small; few-places = omega (arith, x .sized .few); short = omega (arith, x .sized .short); formed = x .pushes .on 0 }
+
+  line-proper : (d : Condition) (ms : List Mode) → Sound q d ms → (l : Line) → Fits l → Proper (formula q d ms l)
+  line-proper d ms o (single p ps) f =
+      proper-by (omega (arith, length-map (columns q) some, a .fewColumns)) (first-every SmallRange tt range-size (columns q) (a .ranges)) (first-every Nonempty tt some-range (columns q) (a .ranges))
+      (parts-fit (firstRanges (columns q)) d ms o (λ i. firstSight) (λ i. first-in-one q) p ps) (f .places) (f .instructions)
+  line-proper d ms o (double p ps) f =
+      proper-by (omega (arith, length-append (firstRanges (columns q)) (hiddenRanges (q .visible) 0 (columns q)), length-map (columns q) some, hidden-length (q .visible) 0 (columns q), a .fewColumns))
+      (both-every SmallRange tt range-size (q .visible) (columns q) (columns q) (a .ranges) (a .ranges)) (both-every Nonempty tt some-range (q .visible) (columns q) (columns q) (a .ranges) (a .ranges))
+      (parts-fit (bothRanges q) d ms o (λ i. cond i (secondSight q) firstSight) both-small p ps) (f .places) (f .instructions)
 
   -- an inserted row's values are constants of the question
   value-ok : (g : Range) (v : ℤ) → RangeOk g → T (inRange g v) → ConstantOk v

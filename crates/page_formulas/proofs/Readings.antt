@@ -1,86 +1,101 @@
--- Two readings of the table that agree on each claim, and on what denies and joins, agree on every part, line and formula.
+-- Two readings of the table that agree on its words agree on every claim, part, line and formula.
 use mathlib.Core.Path.{refl}
 use mathlib.Core.Logic.{inl, inr}
-use mathlib.Core.Bool.{Bool, true, false, cond}
+use mathlib.Core.Bool.{Bool, true, false}
 use mathlib.Core.List.{List, [], _∷_, map, foldl}
 use native.Mathlib.Omega.{arith}
-use Rattle.page_meaning.specs.Contents.{Question, Change, insert, delete, modify, Values, Table}
-use Rattle.page_meaning.specs.Claims.{Claim, Part, Line, Deed, putting, insertion, deletion, modification, Reading, readPart, readParts, unlessAlone, formulasBy}
+use Rattle.page_meaning.specs.Condition.{Condition}
+use Rattle.page_meaning.specs.Contents.{Question, Change, insert, delete, modify, Mode, become, Values, Table}
+use Rattle.page_meaning.specs.Claims.{Claim, listed, relisted, chosen, moving, staying, differing, Part, of1, of2, not1, not2, Line, insertion, deletion, modification, Reading, claims, readPart, readParts, unlessAlone, formulasBy}
 use Rattle.page_questions.specs.Accepted.{Every}
 use Rattle.page_formulas.specs.Costs.{Fits}
 use Rattle.page_formulas.proofs.Usable.{Deeds}
 
-module _ {A B : Type 0} (R : A → B → Type 0) where
-  pub record Match (x : Reading A) (y : Reading B) : Type 0 where
-    pub claims : (c : Claim) (i : Bool) → R (x .claims c i) (y .claims c i)
+-- rows as they are, rows after the change or not, and what is said of them
+module _ {W X A B : Type 0} (Old New : W → X → Type 0) (R : A → B → Type 0) where
+  pub record Match (x : Reading W A) (y : Reading X B) : Type 0 where
+    pub same : (w : W) (v : X) → Old w v → New w v
+    pub F : (w : W) (v : X) → Old w v → New (x .F w) (y .F v)
+    pub C : (w : W) (v : X) → New w v → R (x .C w) (y .C v)
+    pub D : (w : W) (v : X) → Old w v → R (x .D w) (y .D v)
+    pub M : (w : W) (v : X) → Old w v → R (x .M w) (y .M v)
+    pub differ : (w u : W) (v t : X) → New w v → New u t → R (x .differ w u) (y .differ v t)
     pub deny : {a : A} {b : B} → R a b → R (x .deny a) (y .deny b)
     pub both : {a c : A} {b d : B} → R a b → R c d → R (x .both a c) (y .both b d)
-    pub nothing : R (x .nothing) (y .nothing)
+    pub either : {a c : A} {b d : B} → R a b → R c d → R (x .either a c) (y .either b d)
 
-  module _ {x : Reading A} {y : Reading B} (m : Match x y) where
-    pub match-part : (p : Part) → R (readPart x p) (readPart y p)
-    match-part p = go (p .denied)
-      where
-        go : (b : Bool) → R (cond b (x .deny (x .claims (p .claim) (p .second))) (x .claims (p .claim) (p .second))) (cond b (y .deny (y .claims (p .claim) (p .second))) (y .claims (p .claim) (p .second)))
-        go true = m .deny (m .claims (p .claim) (p .second))
-        go false = m .claims (p .claim) (p .second)
+  module _ {x : Reading W A} {y : Reading X B} (m : Match x y) (w : Bool → W) (v : Bool → X) (h : (i : Bool) → Old (w i) (v i)) where
+    pub match-claim : (c : Claim) (i : Bool) → R (claims x w c i) (claims y v c i)
+    match-claim listed i = m .C _ _ (m .same _ _ (h i))
+    match-claim relisted i = m .C _ _ (m .F _ _ (h i))
+    match-claim chosen i = m .D _ _ (h i)
+    match-claim moving i = m .M _ _ (h i)
+    match-claim staying i = m .either (m .deny (m .M _ _ (h i))) (m .C _ _ (m .F _ _ (h i)))
+    match-claim (differing j true) i = m .differ _ _ _ _ (m .F _ _ (h i)) (m .F _ _ (h j))
+    match-claim (differing j false) i = m .differ _ _ _ _ (m .F _ _ (h i)) (m .same _ _ (h j))
 
-    match-more : (ps : List Part) {a : A} {b : B} → R a b → R (foldl (λ c p. x .both c (readPart x p)) a ps) (foldl (λ c p. y .both c (readPart y p)) b ps)
+    pub match-part : (p : Part) → R (readPart x w p) (readPart y v p)
+    match-part (of1 c) = match-claim c false
+    match-part (of2 c) = match-claim c true
+    match-part (not1 c) = m .deny (match-claim c false)
+    match-part (not2 c) = m .deny (match-claim c true)
+
+    match-more : (ps : List Part) {a : A} {b : B} → R a b → R (foldl (λ c p. x .both c (readPart x w p)) a ps) (foldl (λ c p. y .both c (readPart y v p)) b ps)
     match-more [] r = r
     match-more (p ∷ ps) r = match-more ps (m .both r (match-part p))
 
-    pub match-parts : (ps : List Part) → R (readParts x ps) (readParts y ps)
-    match-parts [] = m .nothing
-    match-parts (p ∷ ps) = match-more ps (match-part p)
+    pub match-parts : (p : Part) (ps : List Part) → R (readParts x w p ps) (readParts y v p ps)
+    match-parts p ps = match-more ps (match-part p)
 
-  -- two lists, position by position
-  abbrev pub Matched : List A → List B → Type 0
-  Matched [] [] = Unit {0}
-  Matched [] (y ∷ ys) = ⊥
-  Matched (x ∷ xs) [] = ⊥
-  Matched (x ∷ xs) (y ∷ ys) = R x y × Matched xs ys
+-- two lists, position by position
+abbrev pub Matched : {A B : Type 0} → (A → B → Type 0) → List A → List B → Type 0
+Matched R [] [] = Unit {0}
+Matched R [] (b ∷ bs) = ⊥
+Matched R (a ∷ l) [] = ⊥
+Matched R (a ∷ l) (b ∷ bs) = R a b × Matched R l bs
 
 -- ---- every line of the table finds room
 
-insertion-fits : Fits insertion
+pub insertion-fits : Fits insertion
 insertion-fits = record { instructions = omega arith; places = omega arith }
 
-deletion-fits : (asked : Bool) → Every Fits (deletion asked)
+pub deletion-fits : (asked : Bool) → Every Fits (deletion asked)
 deletion-fits true = (record { instructions = omega arith; places = omega arith }, tt)
 deletion-fits false = (record { instructions = omega arith; places = omega arith }, tt)
 
-modification-fits : (asked : Bool) → Every Fits (modification asked)
+pub modification-fits : (asked : Bool) → Every Fits (modification asked)
 modification-fits true = (record { instructions = omega arith; places = omega arith }, (record { instructions = omega arith; places = omega arith }, (record { instructions = omega arith; places = omega arith }, tt)))
 modification-fits false = (record { instructions = omega arith; places = omega arith }, (record { instructions = omega arith; places = omega arith }, (record { instructions = omega arith; places = omega arith }, (record { instructions = omega arith; places = omega arith }, tt))))
 
 -- ---- every formula of a change
 
-module _ {A B : Type 0} (R : A → B → Type 0) (f : Deed → Line → A) (g : Deed → Line → B) (P : Deed → Type 0) (h : (d : Deed) → P d → (l : Line) → Fits l → R (f d l) (g d l)) where
-  match-lines : (d : Deed) → P d → (ls : List Line) → Every Fits ls → Matched R (map (f d) ls) (map (g d) ls)
-  match-lines d p [] t = tt
-  match-lines d p (l ∷ ls) t = (h d p l (t .0), match-lines d p ls (t .1))
+module _ {A B : Type 0} (R : A → B → Type 0) (f : Condition → List Mode → Line → A) (g : Condition → List Mode → Line → B)
+    (P : Condition → List Mode → Type 0) (h : (d : Condition) (ms : List Mode) → P d ms → (l : Line) → Fits l → R (f d ms l) (g d ms l)) where
+  match-lines : (d : Condition) (ms : List Mode) → P d ms → (ls : List Line) → Every Fits ls → Matched R (map (f d ms) ls) (map (g d ms) ls)
+  match-lines d ms p [] t = tt
+  match-lines d ms p (l ∷ ls) t = (h d ms p l (t .0), match-lines d ms p ls (t .1))
 
-  match-rows : (new : List Values) → Deeds P (insert new) → Matched R (map (λ n. f (putting n) insertion) new) (map (λ n. g (putting n) insertion) new)
+  match-rows : (new : List Values) → Deeds P (insert new) → Matched R (map (λ n. f [] (map become n) insertion) new) (map (λ n. g [] (map become n) insertion) new)
   match-rows [] p = tt
-  match-rows (n ∷ new) p = (h (putting n) (p n (inl refl)) insertion insertion-fits, match-rows new (λ m i. p m (inr i)))
+  match-rows (n ∷ new) p = (h [] (map become n) (p n (inl refl)) insertion insertion-fits, match-rows new (λ m i. p m (inr i)))
 
-  match-unless : (ts us : List Table) (xs : List A) (ys : List B) → Matched R xs ys → Matched R (unlessAlone ts us xs) (unlessAlone ts us ys)
-  match-unless [] [] xs ys m = tt
-  match-unless [] (u ∷ us) xs ys m = m
-  match-unless (t ∷ ts) us xs ys m = m
+  match-unless : (ts us : List Table) (l : List A) (bs : List B) → Matched R l bs → Matched R (unlessAlone ts us l) (unlessAlone ts us bs)
+  match-unless [] [] l bs m = tt
+  match-unless [] (u ∷ us) l bs m = m
+  match-unless (t ∷ ts) us l bs m = m
 
   pub match-formulas : (q : Question) (ch : Change) → Deeds P ch → (asked : Bool) → Matched R (formulasBy f q ch asked) (formulasBy g q ch asked)
   match-formulas q (insert new) p true = match-rows new p
   match-formulas q (insert new) p false = match-unless (q .front) (q .back) _ _ (match-rows new p)
-  match-formulas q (delete d) p asked = match-lines _ p (deletion asked) (deletion-fits asked)
-  match-formulas q (modify d ms) p asked = match-lines _ p (modification asked) (modification-fits asked)
+  match-formulas q (delete d) p asked = match-lines d [] p (deletion asked) (deletion-fits asked)
+  match-formulas q (modify d ms) p asked = match-lines d ms p (modification asked) (modification-fits asked)
 
--- the same of one reading
-module _ {A : Type 0} (R : A → Type 0) (f : Deed → Line → A) (P : Deed → Type 0) (h : (d : Deed) → P d → (l : Line) → Fits l → R (f d l)) where
-  pub every-formula : (q : Question) (ch : Change) → Deeds P ch → (asked : Bool) → Every R (formulasBy f q ch asked)
-  every-formula q ch p asked = go (formulasBy f q ch asked) (formulasBy (λ d l. l) q ch asked) (match-formulas (λ a l. R a) f (λ d l. l) P h q ch p asked)
-    where
-      go : {B : Type 0} (xs : List A) (ys : List B) → Matched (λ a b. R a) xs ys → Every R xs
-      go [] ys m = tt
-      go (x ∷ xs) [] m = absurd m
-      go (x ∷ xs) (y ∷ ys) m = (m .0, go xs ys (m .1))
+-- the same of one reading: the other is the lines themselves
+pub every-formula : {A : Type 0} (R : A → Type 0) (f : Condition → List Mode → Line → A) (P : Condition → List Mode → Type 0)
+    → ((d : Condition) (ms : List Mode) → P d ms → (l : Line) → Fits l → R (f d ms l)) → (q : Question) (ch : Change) → Deeds P ch → (asked : Bool) → Every R (formulasBy f q ch asked)
+every-formula {A} R f P h q ch p asked = go (formulasBy f q ch asked) (formulasBy (λ d ms l. l) q ch asked) (match-formulas (λ a l. R a) f (λ d ms l. l) P h q ch p asked)
+  where
+    go : (l : List A) (bs : List Line) → Matched (λ a b. R a) l bs → Every R l
+    go [] bs m = tt
+    go (a ∷ l) [] m = absurd m
+    go (a ∷ l) (b ∷ bs) m = (m .0, go l bs (m .1))

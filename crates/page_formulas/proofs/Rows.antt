@@ -188,18 +188,3 @@ module _ (q : Question) where
       go (i ∷ is) e a = ap₂ (λ x l. x ∷ l)
           (look-tabulate (length (columns q)) (λ j. ρ (suc j)) i (e .0) ∙ at i (among (q .visible) i) (a .0) ∙ sym (look-tabulate (length (columns q)) (λ j. ρ (secondSight q j .vertex)) i (e .0)))
           (go is (e .1) (a .1))
-
-  -- ---- there and back
-
-  tabulate-is : (u : M.Values) (n : ℕ) (f : ℕ → ℤ) → length u ≡ n → ((i : ℕ) → i < n → f i ≡ look u i) → tabulate n f ≡ u
-  unfolding tabulate
-  tabulate-is [] zero f e h = refl
-  tabulate-is [] (suc n) f e h = absurd (omega arith)
-  tabulate-is (x ∷ u) zero f e h = absurd (omega arith)
-  tabulate-is (x ∷ u) (suc n) f e h = ap₂ (λ y l. y ∷ l) (h 0 (omega arith)) (tabulate-is u n (λ i. f (suc i)) (omega arith) (λ i k. h (suc i) (omega arith)))
-
-  pub rowOf1-assign : (u w : M.Values) → T (fits (columns q) u) → rowOf1 q (assign u w) ≡ u
-  rowOf1-assign u w t = tabulate-is u (length (columns q)) (λ i. assign u w (suc i)) (fits-length (columns q) u t) (λ i h. sym (value-vertex (assign u w) (suc i)) ∙ assign-sees-one u w t i h)
-
-  pub rowOf2-assign : (u w : M.Values) → T (fits (columns q) u) → T (fits (columns q) w) → part q (look u) ≡ part q (look w) → rowOf2 q (assign u w) ≡ w
-  rowOf2-assign u w t s e = tabulate-is w (length (columns q)) (λ i. assign u w (secondSight q i .vertex)) (fits-length (columns q) w s) (λ i h. sym (value-vertex (assign u w) (secondSight q i .vertex)) ∙ assign-sees-two u w t e i h)

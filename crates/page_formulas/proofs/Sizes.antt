@@ -10,7 +10,6 @@ use lib.IntN.{ℤ, pos, negsuc, negℤ, _-ℤ_}
 use lib.Signed.{_≤ℤ_}
 use Rattle.page_numbers.specs.Numbers.{up, dn}
 use Rattle.page_numbers.proofs.Bridge.{ints, +up, +dn, neg-up, neg-dn}
-use Rattle.page_meaning.specs.Limits.{mostTokens, mostComparisons}
 use Rattle.page_meaning.specs.Condition.{Op, less, atMost, equal, atLeast, more, unequal, Side, constant, column, compare, both, either, negate, Condition}
 use Rattle.page_meaning.specs.Contents.{Range, Table, Mode, keep, become, shift}
 use Rattle.page_meaning.specs.Claims.{kept}
@@ -19,9 +18,10 @@ use Rattle.page_questions.specs.Reader.{counted}
 use Rattle.page_questions.specs.Accepted.{Every, RangeOk, ConstantOk, SideOk, TokenOk, ConditionOk, ModeOk}
 use Rattle.page_formulas.specs.Program.{Term, Place, Instr, place, andI, orI, notI, trueI, falseI, Program, places}
 use Rattle.page_formulas.specs.Compile.{Sight, atMostPlace, belowPlace, comparison, constantTerm, plus, sideTerm, compile}
-use Rattle.page_formulas.specs.Parts.{_and_, _or_, denied, conditionProgram}
+use Rattle.page_formulas.specs.Parts.{joined, denied, conditionProgram}
 use Rattle.page_formulas.specs.Vertices.{Ranges, present}
 use Rattle.page_formulas.specs.Formulas.{bounded, boundedAll, differsNew, differsOver}
+use Rattle.page_formulas.specs.Costs.{conditionCost}
 use Rattle.page_formulas.specs.Proper.{billion, large, highest, SmallPlace}
 
 -- ---- programs: small places, at most n of them, at most m instructions
@@ -68,17 +68,8 @@ module _ (rs : Ranges) where
   unfolding places
   size-place p h = record { small = (h, tt); few = omega arith; short = omega arith }
 
-  -- two parts, then what joins them
-  size-two : {p r : Program} {n m k l : ℕ} (i : Instr) → places (i ∷ []) ≡ [] → Sized rs p n m → Sized rs r k l → Sized rs (p ++ (r ++ (i ∷ []))) (n + k) (m + (l + 1))
-  size-two {p} {r} {n} {m} {k} {l} i e x y = size-most (n + k) (m + (l + 1)) (size-append p (r ++ (i ∷ [])) x (size-append r (i ∷ []) y (size-join i e))) (omega arith) (omega arith)
-
-  pub size-and : {p r : Program} {n m k l : ℕ} → Sized rs p n m → Sized rs r k l → Sized rs (p and r) (n + k) (m + (l + 1))
-  unfolding places
-  size-and = size-two andI refl
-
-  pub size-or : {p r : Program} {n m k l : ℕ} → Sized rs p n m → Sized rs r k l → Sized rs (p or r) (n + k) (m + (l + 1))
-  unfolding places
-  size-or = size-two orI refl
+  pub size-joined : (i : Instr) → places (i ∷ []) ≡ [] → {p r : Program} {n m k l : ℕ} → Sized rs p n m → Sized rs r k l → Sized rs (joined i p r) (n + k) (m + (l + 1))
+  size-joined i e {p} {r} {n} {m} {k} {l} x y = size-most (n + k) (m + (l + 1)) (size-append p (r ++ (i ∷ [])) x (size-append r (i ∷ []) y (size-join i e))) (omega arith) (omega arith)
 
   pub size-not : {p : Program} {n m : ℕ} → Sized rs p n m → Sized rs (denied p) n (m + 1)
   unfolding places
@@ -106,7 +97,7 @@ module _ (rs : Ranges) where
       low = omega (arith, +dn (r .offset -ℤ l .offset) (negsuc 0), +dn (r .offset) (negℤ (l .offset)), neg-dn (l .offset), x .high, y .low);
     }
 
-  -- "at most 120 places": two a comparison, and at most four instructions
+  -- a comparison has at most two places and four instructions
   pub size-comparison : (A B : ℕ) (op : Op) (l r : Term) → SmallTerm A l → SmallTerm B r → A + B ≤ highest → Sized rs (comparison op l r) 2 4
   unfolding places
   size-comparison A B op l r x y h = go op
@@ -180,13 +171,13 @@ module _ (rs : Ranges) (P : ℕ → Type 0) where
     compile-size (either ∷ c) u o n = let r = compile-size c (u .1) (o .1) n in (r .0, r .1, one-token orI refl c (r .0) (r .2))
     compile-size (negate ∷ c) u o n = let r = compile-size c (u .1) (o .1) n in (r .0, r .1, one-token notI refl c (r .0) (r .2))
 
-    pub size-condition : (c : Condition) → Uses P c → ConditionOk c → Sized rs (conditionProgram σ c) (2 * mostComparisons) (mostTokens + 3 * mostComparisons)
+    pub size-condition : (c : Condition) → Uses P c → ConditionOk c → Sized rs (conditionProgram σ c) (conditionCost .places) (conditionCost .instructions)
     unfolding places
-    size-condition [] u o = size-most rs (2 * mostComparisons) (mostTokens + 3 * mostComparisons) (size-join rs trueI refl) (omega arith) (omega arith)
+    size-condition [] u o = size-most rs (conditionCost .places) (conditionCost .instructions) (size-join rs trueI refl) (omega arith) (omega arith)
     size-condition (t ∷ ts) u o = let r = compile-size (t ∷ ts) u (o .constants) 0 in
-        size-most rs (2 * mostComparisons) (mostTokens + 3 * mostComparisons) (r .2) (omega (arith, r .1, o .fewComparisons)) (omega (arith, r .1, o .fewComparisons, o .fewTokens))
+        size-most rs (conditionCost .places) (conditionCost .instructions) (r .2) (omega (arith, r .1, o .fewComparisons)) (omega (arith, r .1, o .fewComparisons, o .fewTokens))
 
-    -- "new ≤ hi and new ≥ lo"
+    -- a column's range tests
     size-bounded : (t : Term) → SmallTerm rs (B + large) t → (g : Range) → RangeOk g → Sized rs (bounded t g) 2 4
     unfolding places
     size-bounded t x g r = let z = range-size g r in

@@ -11,6 +11,7 @@ use Rattle.page_formulas.specs.Kinds.{kindOf, kindsOf}
 use Rattle.page_formulas.specs.Form.{arity, Rises}
 use Rattle.page_formulas.specs.Postfix.{says, sizeBy, firstOf, sizeOf, counted, valueAt}
 use Rattle.page_formulas.proofs.Cases.{joint-case, constant-case}
+use Rattle.page_formulas.proofs.Chains.{Chain, stack, Top, the-top, on-top, on-stack}
 
 -- ---- the code's tests
 
@@ -119,45 +120,6 @@ testOf x orI = true
 testOf x notI = true
 testOf x trueI = true
 testOf x falseI = true
-
--- ---- the stack as a chain of instructions
-module _ (sizes : List ℕ) where
-  abbrev size : ℕ → ℕ
-  size j = getD sizes j 0
-
-  -- h values, the top one instruction i - 1's
-  abbrev Chain : ℕ → ℕ → Type 0
-  Chain zero zero = Unit {0}
-  Chain (suc i) zero = ⊥
-  Chain zero (suc h) = ⊥
-  Chain (suc i) (suc h) = (0 < size i) × (size i ≤ suc i) × Chain (suc i - size i) h
-
-  abbrev stack : (ℕ → Bool) → ℕ → ℕ → List Bool
-  stack v i zero = []
-  stack v zero (suc h) = []
-  stack v (suc i) (suc h) = v i ∷ stack v (suc i - size i) h
-
-  -- the top one, and where the others end
-  record Top (i h : ℕ) : Type 0 where
-    rest : ℕ
-    chain : Chain rest h
-    some : 0 < i
-    positive : 0 < size (i - 1)
-    sum : i ≡ rest + size (i - 1)
-    stacked : (v : ℕ → Bool) → stack v i (suc h) ≡ v (i - 1) ∷ stack v rest h
-
-  the-top : (i h : ℕ) → Chain i (suc h) → Top i h
-  the-top zero h c = absurd c
-  the-top (suc j) h c =
-      let d : suc j - 1 ≡ j = omega arith in let z : size (suc j - 1) ≡ size j = ap size d in
-      record { rest = suc j - size j; chain = c .2; some = omega arith; positive = omega (arith, z, c .0); sum = omega (arith, z, c .1); stacked = λ v. ap (λ m. v m ∷ stack v (suc j - size j) h) (sym d) }
-
-  -- one more on top
-  on-top : (i r h : ℕ) → 0 < size i → suc i ≡ r + size i → Chain r h → Chain (suc i) (suc h)
-  on-top i r h z e c = (z, omega arith, subst (λ m. Chain m h) (omega arith) c)
-
-  on-stack : (v : ℕ → Bool) (i r h : ℕ) → suc i ≡ r + size i → stack v (suc i) (suc h) ≡ v i ∷ stack v r h
-  on-stack v i r h e = ap (λ m. v i ∷ stack v m h) (omega arith)
 
 -- ---- a well-formed program's instructions, one after another
 module _ (kinds : List ℕ) (n : ℕ) (long : n ≤ length kinds) (formed : Rises 0 (take n kinds) 1) where

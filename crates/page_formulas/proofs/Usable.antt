@@ -5,8 +5,8 @@ use native.Mathlib.Omega.{arith}
 use lib.ListN.{length, getD, replicate, length-append}
 use Rattle.page_meaning.specs.Condition.{Condition, Token, compare, both, either, negate, Side, constant, column}
 use Rattle.page_meaning.specs.Contents.{Question, Change, insert, delete, modify, Mode, keep, become, shift, Values, _∈_, columns, columnsOf}
-use Rattle.page_meaning.specs.Claims.{Deed, putting}
 use Rattle.page_meaning.specs.WellFormed.{Mine, SideUses, TokenUses, Uses, Reads, ChangeOk}
+use Rattle.page_meaning.proofs.Moving.{reads-become}
 use Rattle.page_questions.specs.Accepted.{Every, Shaped, ChangeAccepted, Ascending, Accepted}
 
 abbrev pub Exists : Question → ℕ → Type 0
@@ -17,17 +17,17 @@ ChangeUsable q (insert new) = Unit {0}
 ChangeUsable q (delete d) = Uses (Exists q) d × Shaped d
 ChangeUsable q (modify d ms) = Uses (Exists q) d × Shaped d × Reads (Exists q) ms
 
--- P holds of each deed of a change
-abbrev pub Deeds : (Deed → Type 0) → Change → Type 0
-Deeds P (insert new) = (n : Values) → n ∈ new → P (putting n)
-Deeds P (delete d) = P (record { condition = d; modes = [] })
-Deeds P (modify d ms) = P (record { condition = d; modes = ms })
+-- P holds of each condition with its modes that the change's formulas are read under
+abbrev pub Deeds : (Condition → List Mode → Type 0) → Change → Type 0
+Deeds P (insert new) = (n : Values) → n ∈ new → P [] (map become n)
+Deeds P (delete d) = P d []
+Deeds P (modify d ms) = P d ms
 
--- a deed's columns exist, and its condition leaves one truth
-pub record Doable (q : Question) (d : Deed) : Type 0 where
-  pub uses : Uses (Exists q) (d .condition)
-  pub shaped : Shaped (d .condition)
-  pub reads : Reads (Exists q) (d .modes)
+-- their columns exist, and the condition leaves one truth
+pub record Doable (q : Question) (d : Condition) (ms : List Mode) : Type 0 where
+  pub uses : Uses (Exists q) d
+  pub shaped : Shaped d
+  pub reads : Reads (Exists q) ms
 
 pub record Usable (q : Question) : Type 0 where
   pub uses : Uses (Exists q) (q .condition)
@@ -90,10 +90,6 @@ reads-every P (shift j k ∷ ms) u = ((u .0, tt), reads-every P ms (u .1))
 
 pub reads-at : (P : ℕ → Type 0) (n : ℕ) (ms : List Mode) → Reads P ms → (i : ℕ) → Reads P (getD (replicate n keep ++ ms) i keep ∷ [])
 reads-at P n ms u i = mode-at (λ m. Reads P (m ∷ [])) tt n ms (reads-every P ms u) i
-
-pub reads-become : (P : ℕ → Type 0) (n : Values) → Reads P (map become n)
-reads-become P [] = tt
-reads-become P (x ∷ n) = reads-become P n
 
 pub deeds-doable : (q : Question) (ch : Change) → ChangeUsable q ch → Deeds (Doable q) ch
 deeds-doable q (insert new) h = λ n i. record { uses = tt; shaped = tt; reads = reads-become (Exists q) n }

@@ -1,6 +1,6 @@
--- The trouble lists of 01 as programs over vertices: "Formulas count from 0, parts in the order written."
+-- The trouble lists as programs over vertices (FORMAT 5).
 use Prim.Native.Nat.{ℕ, zero, suc, _+_}
-use mathlib.Core.Bool.{Bool, true, false, _&&_, _||_, cond}
+use mathlib.Core.Bool.{Bool, true, false, _||_, cond}
 use mathlib.Core.Option.{none, some}
 use mathlib.Core.List.{List, [], _∷_, _++_, map}
 use lib.ListN.{length, take, drop}
@@ -9,10 +9,10 @@ use lib.IntN.{ℤ, pos}
 use Rattle.page_meaning.specs.Condition.{Condition, atMost, atLeast, unequal}
 use Rattle.page_meaning.specs.Contents.{Question, Change, Mode, keep, become, shift, Range, Table, columns, look, first}
 use Rattle.page_meaning.specs.Contents as M
-use Rattle.page_meaning.specs.Claims.{Claim, listed, relisted, chosen, moving, staying, differing, Line, Deed, modeAt, kept, Reading, readParts, formulasBy}
-use Rattle.page_formulas.specs.Program.{Program, Term, Values, andI, orI, trueI, falseI}
+use Rattle.page_meaning.specs.Claims.{Line, single, double, modeAt, kept, Reading, readParts, formulasBy}
+use Rattle.page_formulas.specs.Program.{Program, Term, Values, andI, orI, falseI}
 use Rattle.page_formulas.specs.Compile.{Sight, comparison, constantTerm, plus}
-use Rattle.page_formulas.specs.Parts.{_and_, _or_, denied, conditionProgram}
+use Rattle.page_formulas.specs.Parts.{joined, denied, conditionProgram}
 use Rattle.page_formulas.specs.Vertices.{Ranges}
 
 -- its vertices' ranges; whether it speaks of two rows; its program
@@ -26,7 +26,7 @@ pub record Formula : Type 0 where
 abbrev pub vertex : ℕ → Term
 vertex v = record { vertex = v; offset = pos 0 }
 
--- "1+i column i of the first row"
+-- FORMAT 5.4: vertex 1 + i is column i of the first row
 abbrev pub firstSight : Sight
 firstSight i = vertex (suc i)
 
@@ -35,7 +35,7 @@ unfoldable pub among : List ℕ → ℕ → Bool
 among [] i = false
 among (j ∷ js) i = eqb j i || among js i
 
--- "1+n+i column i of the second where column i is hidden, n columns in all"; the rows "share their visible columns"
+-- FORMAT 5.4: 1 + n + i is column i of the second row if that column is hidden; a visible one is the first row's
 abbrev pub secondSight : Question → Sight
 secondSight q i = vertex (cond (among (q .visible) i) (suc i) (suc (length (columns q) + i)))
 
@@ -45,13 +45,13 @@ newTerm keep σ old = old
 newTerm (become k) σ old = constantTerm k
 newTerm (shift j k) σ old = plus (σ j) k
 
--- "F is the modify applied to a full row"
+-- F: the row after the modify
 unfoldable pub after : Question → List Mode → Sight → Sight
 after q ms σ i = newTerm (modeAt q ms i) σ (σ i)
 
 -- ---- what its vertices range over
 
--- "An insert keeps its changed table's vertices, with their ranges only": every column of the first row has its vertex
+-- every column of the first row has its vertex, of an insert too (FORMAT 5.4)
 abbrev pub firstRanges : List Range → Ranges
 firstRanges gs = map some gs
 
@@ -71,7 +71,7 @@ twoRows q p = record { ranges = bothRanges q; pairs = true; program = p }
 
 -- ---- parts
 
--- "new ≤ hi and new ≥ lo", each joined to what stands before it
+-- new value ≤ hi, new value ≥ lo (FORMAT 5.2), each joined to what stands before it
 abbrev pub bounded : Term → Range → Program
 bounded t g = comparison atMost t (constantTerm (g .hi)) ++ (andI ∷ (comparison atLeast t (constantTerm (g .lo)) ++ (andI ∷ [])))
 
@@ -80,13 +80,13 @@ boundedNew keep σ g = []
 boundedNew (become k) σ g = bounded (constantTerm k) g
 boundedNew (shift j k) σ g = bounded (plus (σ j) k) g
 
--- "for each column not kept, in order"
+-- for each column whose mode isn't 0, in order
 unfoldable pub boundedAll : Sight → Table → List Mode → Program
 boundedAll σ [] ms = []
 boundedAll σ (g ∷ gs) [] = []
 boundedAll σ (g ∷ gs) (m ∷ ms) = boundedNew m σ g ++ boundedAll σ gs ms
 
--- "some visible column not kept has new ≠ old, joined by or in column order (false if there is none)"
+-- for each visible column whose mode isn't 0, in order: the one value ≠ the other, joined to what stands before it
 abbrev pub differsNew : Mode → Term → Term → Program
 differsNew m a b = cond (kept m) [] (comparison unequal a b ++ (orI ∷ []))
 
@@ -94,48 +94,23 @@ unfoldable pub differsOver : (ℕ → Mode) → Sight → Sight → List ℕ →
 differsOver mode σ τ [] = []
 differsOver mode σ τ (i ∷ is) = differsNew (mode i) (σ i) (τ i) ++ differsOver mode σ τ is
 
-abbrev pub differs : Question → List Mode → Sight → Sight → Program
-differs q ms σ τ = falseI ∷ differsOver (modeAt q ms) σ τ (q .visible)
-
 -- ---- the lists
 
 module _ (q : Question) where
-  abbrev pub C : Sight → Program
-  C σ = conditionProgram σ (q .condition)
-
-  -- "M: its condition, then for each column not kept, in order, new ≤ hi and new ≥ lo"
-  abbrev pub moves : Condition → List Mode → Sight → Program
-  moves d ms σ = conditionProgram σ d ++ boundedAll σ (q .changed) ms
-
-  -- "S = (not M) or C(F)"
-  abbrev pub S : Condition → List Mode → Sight → Program
-  S d ms σ = denied (moves d ms σ) or C (after q ms σ)
-
-  -- the program of a claim about row i, where σ has both rows' sights (FORMAT 5.2)
-  abbrev pub claims : Deed → (Bool → Sight) → Claim → Bool → Program
-  claims d σ listed i = C (σ i)
-  claims d σ relisted i = C (after q (d .modes) (σ i))
-  claims d σ chosen i = conditionProgram (σ i) (d .condition)
-  claims d σ moving i = moves (d .condition) (d .modes) (σ i)
-  claims d σ staying i = S (d .condition) (d .modes) (σ i)
-  claims d σ (differing j new) i = differs q (d .modes) (after q (d .modes) (σ i)) (cond new (after q (d .modes) (σ j)) (σ j))
-
-  abbrev pub programs : Deed → (Bool → Sight) → Reading Program
-  programs d σ = record { claims = claims d σ; deny = denied; both = _and_; nothing = trueI ∷ [] }
-
-  -- the sight of row i; a line of one row sees the first
-  abbrev pub rowSight : Bool → Bool → Sight
-  rowSight pairs i = cond (pairs && i) (secondSight q) firstSight
+  -- the words of the table (FORMAT 5.2), as programs; differ begins with false
+  abbrev pub programs : Condition → List Mode → Reading Sight Program
+  programs d ms = record { F = after q ms; C = λ σ. conditionProgram σ (q .condition); D = λ σ. conditionProgram σ d; M = λ σ. conditionProgram σ d ++ boundedAll σ (q .changed) ms; differ = λ σ τ. falseI ∷ differsOver (modeAt q ms) σ τ (q .visible); deny = denied; both = joined andI; either = joined orI }
 
   -- a line of the table
-  abbrev pub formula : Deed → Line → Formula
-  formula d l = let p = readParts (programs d (rowSight (l .pairs))) (l .parts) in cond (l .pairs) (twoRows q p) (oneRow q p)
+  abbrev pub formula : Condition → List Mode → Line → Formula
+  formula d ms (single p ps) = oneRow q (readParts (programs d ms) (λ i. firstSight) p ps)
+  formula d ms (double p ps) = twoRows q (readParts (programs d ms) (λ i. cond i (secondSight q) firstSight) p ps)
 
-  -- "Asked 1 (irrelevant)"
+  -- asked 1
   abbrev pub irrelevance : Change → List Formula
   irrelevance ch = formulasBy formula q ch true
 
-  -- "Asked 2 (computable)"
+  -- asked 2
   abbrev pub computability : Change → List Formula
   computability ch = formulasBy formula q ch false
 
@@ -164,7 +139,7 @@ rowOf1 q ρ = rowBy q ρ firstSight
 abbrev pub rowOf2 : Question → Values → M.Values
 rowOf2 q ρ = rowBy q ρ (secondSight q)
 
--- "For insert, the changed table's values are the inserted row's"
+-- FORMAT 7.2: for an insert the changed table's values are the inserted row's
 abbrev pub putIn : Question → M.Values → M.Values → M.Values
 putIn q new u = take (first q) u ++ (new ++ drop (length (q .changed)) (drop (first q) u))
 

@@ -7,7 +7,8 @@ use lib.Dec.{T, T-not}
 use Rattle.page_meaning.specs.Condition.{Condition, meets}
 use Rattle.page_meaning.specs.Contents.{Question, Change, insert, delete, modify, Mode, Values, _∈_, each, fits, newRow, place, left, added, afterBy, Contents, Valid, Full, row, Within, Shows, Listed, Same}
 use Rattle.page_meaning.specs.WellFormed.{ChangeOk}
-use Rattle.page_meaning.specs.Trouble.{moved, moves}
+use Rattle.page_meaning.specs.Trouble.{moved}
+use Rattle.page_meaning.proofs.Words.{moves}
 use Rattle.page_meaning.proofs.Moving.{Wide, with, selected-same, fits-same, row-same}
 use Rattle.page_meaning.proofs.Tables.{in-left, in-right, in-cases, each-from, each-in, only, within-wide}
 use Rattle.page_meaning.proofs.Fates.{Fate, Then}

@@ -9,7 +9,8 @@ use lib.Dec.{T, T-not, not-T}
 use Rattle.page_numbers.proofs.Bridge.{from-leZ, to-leZ, from-ltZ, +law}
 use Rattle.page_meaning.specs.Condition.{compare, more, constant, meets, run}
 use Rattle.page_meaning.specs.Contents.{Values, _∈_, each, look, inRange, part, fits, columns, Unchanged, Irrelevant, Computable}
-use Rattle.page_meaning.specs.Trouble.{C, S, moves, moved, newFits, differ}
+use Rattle.page_meaning.specs.Trouble.{moved, newFits}
+use Rattle.page_meaning.proofs.Words.{C, S, moves}
 use Rattle.page_meaning.specs.Witness.{cut, alone}
 use Rattle.page_meaning.specs.Exactly.{Relevant}
 use Rattle.page_meaning.specs.Examples.{keys, vals, aboveV, inserting, holding, hidden, lower, tooLow, tooHigh, picked, five, shortcut}
@@ -99,7 +100,7 @@ never-mixed false true false x z a b c = a
 never-mixed false true true x z a b c = c
 
 shortcut-computable : Computable shortcut
-unfolding inRange meets run moved newFits differ part
+unfolding inRange meets run moved newFits part
 shortcut-computable = computable-agrees shortcut (omega arith) .0 (
   λ m. T-not (leZ (pos 10) (look (m .0) 1)) (search parts) (search parts),
   (

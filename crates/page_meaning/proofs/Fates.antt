@@ -5,7 +5,7 @@ use mathlib.Core.Bool.{Bool}
 use lib.Dec.{T}
 use Rattle.page_meaning.specs.Condition.{Row}
 use Rattle.page_meaning.specs.Contents.{Question, Values, part, Shows, Same}
-use Rattle.page_meaning.specs.Trouble.{C}
+use Rattle.page_meaning.proofs.Words.{C}
 
 -- some rows stay, some move to where `after` takes them, the others go
 pub record Fate : Type 0 where

@@ -5,7 +5,8 @@ use mathlib.Core.List.{List, [], _∷_, _++_, map}
 use lib.Dec.{T}
 use Rattle.page_meaning.specs.Contents.{Question, insert, Values, Table, TableFits, TablesFit, Joined, _∈_, each, columnsOf, look, part, Contents, Valid, values, row, Listed, afterBy}
 use Rattle.page_meaning.specs.Claims.{unlessAlone}
-use Rattle.page_meaning.specs.Trouble.{Formula, one, All, Met, AllFail, C, put, irrelevance}
+use Rattle.page_meaning.specs.Trouble.{Formula, one, All, Met, AllFail, irrelevance}
+use Rattle.page_meaning.proofs.Words.{C, put}
 use Rattle.page_meaning.specs.Witness.{cut, none, witness}
 use Rattle.page_meaning.proofs.Moving.{Wide, with, fits-length, put-same}
 use Rattle.page_meaning.proofs.Tables.{joined-fits, fits-append, cut-fits, cut-values, alone-joined}

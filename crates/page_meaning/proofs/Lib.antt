@@ -1,3 +1,4 @@
+pub mod Words
 pub mod Truth
 pub mod Moving
 pub mod Tables
@@ -9,5 +10,4 @@ pub mod Deletes
 pub mod Modifies
 pub mod Inserts
 pub mod Agree
-pub mod Hooks
 pub mod Examples

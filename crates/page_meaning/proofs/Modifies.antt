@@ -9,7 +9,8 @@ use Rattle.page_meaning.specs.Condition.{Condition, Row}
 use Rattle.page_meaning.specs.Contents.{Question, modify, Mode, Values, look, part, Shows, Same}
 use Rattle.page_meaning.specs.WellFormed.{ChangeOk}
 use Rattle.page_meaning.specs.Claims.{kept, modeAt}
-use Rattle.page_meaning.specs.Trouble.{C, S, moved, moves, differ}
+use Rattle.page_meaning.specs.Trouble.{moved}
+use Rattle.page_meaning.proofs.Words.{C, S, moves, differ}
 use Rattle.page_meaning.specs.Witness.{witness}
 use Rattle.page_meaning.proofs.Truth.{and-in, or-cases, or-l, or-r, parts, test}
 use Rattle.page_meaning.proofs.Moving.{kept-same, differ-yes, differ-no}
@@ -26,11 +27,11 @@ module _ (q : Question) (ms : List Mode) where
   kept-moved r i t = kept-same (modeAt q ms i) r (r i) t
 
   part-same : (a b u w : Row) → ((i : ℕ) → T (kept (modeAt q ms i)) → (a i ≡ u i) × (b i ≡ w i)) → part q u ≡ part q w → ¬ T (differ q ms a b) → part q a ≡ part q b
-  unfolding part differ
+  unfolding part
   part-same a b u w k e f = differ-no (modeAt q ms) a b u w k (q .visible) e f
 
   part-apart : (a b : Row) → T (differ q ms a b) → part q a ≢ part q b
-  unfolding part differ
+  unfolding part
   part-apart a b t = differ-yes (modeAt q ms) a b (q .visible) t
 
 module _ (q : Question) (d : Condition) (ms : List Mode) where

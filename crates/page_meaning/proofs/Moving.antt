@@ -12,7 +12,8 @@ use Rattle.page_meaning.specs.Condition.{Condition, Row, Token, compare,
 use Rattle.page_meaning.specs.Contents.{Question, Mode, keep, become, shift, Values, Table, Range, look, first, fits, inRange, newValue, newValues, newRow, place, Full, row}
 use Rattle.page_meaning.specs.WellFormed.{Mine, SideUses, TokenUses, Uses, Reads}
 use Rattle.page_meaning.specs.Claims.{kept}
-use Rattle.page_meaning.specs.Trouble.{moved, newFits, differOver, put}
+use Rattle.page_meaning.specs.Trouble.{moved, newFits, differOver}
+use Rattle.page_meaning.proofs.Words.{put}
 use Rattle.page_meaning.proofs.Truth.{and-in, or-cases, or-l, or-r, parts, test, not-unequal, unequal-not}
 
 -- ---- a condition sees the columns that it names
@@ -145,7 +146,7 @@ new-become [] (v ∷ r) s e = absurd (omega arith)
 new-become (k ∷ n) [] s e = absurd (omega arith)
 new-become (k ∷ n) (v ∷ r) s e = ap (λ l. k ∷ l) (new-become n r s (omega arith))
 
-reads-become : (P : ℕ → Type 0) (n : Values) → Reads P (map become n)
+pub reads-become : (P : ℕ → Type 0) (n : Values) → Reads P (map become n)
 reads-become P [] = tt
 reads-become P (k ∷ n) = reads-become P n
 

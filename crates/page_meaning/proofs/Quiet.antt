@@ -4,7 +4,7 @@ use mathlib.Core.Logic.{Iff·symm, _⊎_, inl, inr}
 use lib.Dec.{T}
 use Rattle.page_meaning.specs.Contents.{Question, Change, Values, columns, fits, look, part, Contents, Valid, Full, values, row, Within, Listed, afterBy, Same}
 use Rattle.page_meaning.specs.WellFormed.{ChangeOk}
-use Rattle.page_meaning.specs.Trouble.{C}
+use Rattle.page_meaning.proofs.Words.{C}
 use Rattle.page_meaning.proofs.Tables.{within-fits}
 use Rattle.page_meaning.proofs.Fates.{Fate, Then, Seen}
 use Rattle.page_meaning.proofs.After.{fateOf, adding, Among, listed-after}

@@ -1,87 +1,57 @@
--- The formulas as one table (FORMAT 5.2, 5.3): each is a line of parts, and a part is a claim about a row under a deed. What claims mean is
--- said twice, of rows in `Trouble` and of programs in `page_formulas`.
+-- The formulas as one table (FORMAT 5.2, 5.3): each is a line of parts, and a part is a claim about a row. The words are read twice: of rows
+-- in `Trouble`, and as programs in `page_formulas`.
 use Prim.Native.Nat.{ℕ}
 use mathlib.Core.Bool.{Bool, true, false, cond}
 use mathlib.Core.List.{List, [], _∷_, _++_, map, foldl}
 use lib.ListN.{getD, replicate}
 use Rattle.page_meaning.specs.Condition.{Condition}
-use Rattle.page_meaning.specs.Contents.{Question, Change, insert, delete, modify, Mode, keep, become, shift, Values, Table, first}
+use Rattle.page_meaning.specs.Contents.{Question, Change, insert, delete, modify, Mode, keep, become, shift, Table, first}
 
 -- ---- words (FORMAT 5.2)
 
--- of a row: C; C(F); the change's condition; M; S; its F differs from row 1 or 2 (the second?), as that is or after the change (after?)
+-- of a row: C; C(F); the change's condition; M; S; its F differs from a row (the second?) as that is, or after the change (after?)
 pub data Claim : Type 0 where
   listed relisted chosen moving staying : Claim
   differing : Bool → Bool → Claim
 
--- a claim of the first row or the second, denied or not
-pub record Part : Type 0 where
-  pub claim : Claim
-  pub second : Bool
-  pub denied : Bool
+-- of row 1 or row 2; as it is, or denied
+pub data Part : Type 0 where
+  of1 of2 not1 not2 : Claim → Part
 
--- does it speak of two rows; its parts, in order
-pub record Line : Type 0 where
-  pub pairs : Bool
-  pub parts : List Part
+-- about one full row, or about two: the first part and the others, joined by and
+pub data Line : Type 0 where
+  single double : Part → List Part → Line
 
-abbrev pub of1 : Claim → Part
-of1 c = record { claim = c; second = false; denied = false }
+-- ---- the table (FORMAT 5.3): the lines of a change for asked 1 (true) and asked 2 (false)
 
-abbrev pub of2 : Claim → Part
-of2 c = record { claim = c; second = true; denied = false }
-
-abbrev pub not1 : Claim → Part
-not1 c = record { claim = c; second = false; denied = true }
-
-abbrev pub not2 : Claim → Part
-not2 c = record { claim = c; second = true; denied = true }
-
-abbrev pub single : List Part → Line
-single ps = record { pairs = false; parts = ps }
-
-abbrev pub double : List Part → Line
-double ps = record { pairs = true; parts = ps }
-
--- ---- the table (FORMAT 5.3): the lines of a change, asked 1 or (false) asked 2
-
--- "for each row: C with that row's values in the changed table's columns"
+-- once for each inserted row, whose values are the modes
 abbrev pub insertion : Line
-insertion = single (of1 relisted ∷ [])
+insertion = single (of1 relisted) []
 
 abbrev pub deletion : Bool → List Line
-deletion true = single (of1 listed ∷ of1 chosen ∷ []) ∷ []
-deletion false = double (of1 listed ∷ of2 listed ∷ of1 chosen ∷ not2 chosen ∷ []) ∷ []
+deletion true = single (of1 listed) (of1 chosen ∷ []) ∷ []
+deletion false = double (of1 listed) (of2 listed ∷ of1 chosen ∷ not2 chosen ∷ []) ∷ []
 
 abbrev pub modification : Bool → List Line
 modification true =
-    single (of1 moving ∷ of1 listed ∷ not1 relisted ∷ [])
-    ∷ single (of1 moving ∷ not1 listed ∷ of1 relisted ∷ [])
-    ∷ single (of1 moving ∷ of1 listed ∷ of1 relisted ∷ of1 (differing false false) ∷ [])
+    single (of1 moving) (of1 listed ∷ not1 relisted ∷ [])
+    ∷ single (of1 moving) (not1 listed ∷ of1 relisted ∷ [])
+    ∷ single (of1 moving) (of1 listed ∷ of1 relisted ∷ of1 (differing false false) ∷ [])
     ∷ []
 modification false =
-    single (of1 moving ∷ not1 listed ∷ of1 relisted ∷ [])
-    ∷ double (of1 listed ∷ of2 listed ∷ of1 staying ∷ not2 staying ∷ [])
-    ∷ double (of1 listed ∷ of2 listed ∷ of1 moving ∷ of2 moving ∷ of1 relisted ∷ of2 relisted ∷ of1 (differing true true) ∷ [])
-    ∷ double (of1 listed ∷ of2 listed ∷ of1 moving ∷ not2 moving ∷ of1 relisted ∷ of1 (differing true false) ∷ [])
+    single (of1 moving) (not1 listed ∷ of1 relisted ∷ [])
+    ∷ double (of1 listed) (of2 listed ∷ of1 staying ∷ not2 staying ∷ [])
+    ∷ double (of1 listed) (of2 listed ∷ of1 moving ∷ of2 moving ∷ of1 relisted ∷ of2 relisted ∷ of1 (differing true true) ∷ [])
+    ∷ double (of1 listed) (of2 listed ∷ of1 moving ∷ not2 moving ∷ of1 relisted ∷ of1 (differing true false) ∷ [])
     ∷ []
 
--- ---- deeds: what claims are read under
+-- ---- the modes of a change
 
--- the change's condition, and a mode for each column of the changed table
-pub record Deed : Type 0 where
-  pub condition : Condition
-  pub modes : List Mode
-
--- a row's values put in
-abbrev pub putting : Values → Deed
-putting new = record { condition = []; modes = map become new }
-
--- the mode of each column; the other tables' columns are kept
+-- of each column; the other tables' columns are kept
 abbrev pub modeAt : Question → List Mode → ℕ → Mode
 modeAt q ms i = getD (replicate (first q) keep ++ ms) i keep
 
--- "mode (0 keep, ..)": the value stays
+-- mode 0 (FORMAT 1.5): the value stays
 abbrev pub kept : Mode → Bool
 kept keep = true
 kept (become k) = false
@@ -89,31 +59,47 @@ kept (shift j k) = false
 
 -- ---- how the table is read
 
--- claims, of the first row or the second, as something of A; what denies it, what joins two, and what no part says
-pub record Reading (A : Type 0) : Type 0 where
-  pub claims : Claim → Bool → A
+-- rows as W and what is said of them as A, for one change: F, C, the change's condition, M, differ; not, and, or
+pub record Reading (W A : Type 0) : Type 0 where
+  pub F : W → W
+  pub C : W → A
+  pub D : W → A
+  pub M : W → A
+  pub differ : W → W → A
   pub deny : A → A
   pub both : A → A → A
-  pub nothing : A
+  pub either : A → A → A
+
+-- the rows are w false and w true
+module _ {W A : Type 0} (R : Reading W A) (w : Bool → W) where
+  abbrev pub claims : Claim → Bool → A
+  claims listed i = R .C (w i)
+  claims relisted i = R .C (R .F (w i))
+  claims chosen i = R .D (w i)
+  claims moving i = R .M (w i)
+  claims staying i = R .either (R .deny (R .M (w i))) (R .C (R .F (w i)))
+  claims (differing j new) i = R .differ (R .F (w i)) (cond new (R .F (w j)) (w j))
+
+  abbrev pub readPart : Part → A
+  readPart (of1 c) = claims c false
+  readPart (of2 c) = claims c true
+  readPart (not1 c) = R .deny (claims c false)
+  readPart (not2 c) = R .deny (claims c true)
+
+  -- each further part is joined to what stands before it
+  abbrev pub readParts : Part → List Part → A
+  readParts p ps = foldl (λ a x. R .both a (readPart x)) (readPart p) ps
 
 module _ {A : Type 0} where
-  abbrev pub readPart : Reading A → Part → A
-  readPart R p = cond (p .denied) (R .deny (R .claims (p .claim) (p .second))) (R .claims (p .claim) (p .second))
-
-  -- the first part, and each further one joined to what stands before it
-  abbrev pub readParts : Reading A → List Part → A
-  readParts R [] = R .nothing
-  readParts R (p ∷ ps) = foldl (λ a x. R .both a (readPart R x)) (readPart R p) ps
-
-  -- "none if there is one table only"
+  -- nothing where there is one table only
   abbrev pub unlessAlone : List Table → List Table → List A → List A
   unlessAlone [] [] l = []
   unlessAlone [] (t ∷ ts) l = l
   unlessAlone (t ∷ ts) us l = l
 
-  -- every line of a change, by what a line is under a deed
-  abbrev pub formulasBy : (Deed → Line → A) → Question → Change → Bool → List A
-  formulasBy f q (insert new) true = map (λ n. f (putting n) insertion) new
-  formulasBy f q (insert new) false = unlessAlone (q .front) (q .back) (map (λ n. f (putting n) insertion) new)
-  formulasBy f q (delete d) asked = map (f (record { condition = d; modes = [] })) (deletion asked)
-  formulasBy f q (modify d ms) asked = map (f (record { condition = d; modes = ms })) (modification asked)
+  -- every line of a change, by what a line is under a condition and modes; an inserted row's values are its modes
+  abbrev pub formulasBy : (Condition → List Mode → Line → A) → Question → Change → Bool → List A
+  formulasBy f q (insert new) true = map (λ n. f [] (map become n) insertion) new
+  formulasBy f q (insert new) false = unlessAlone (q .front) (q .back) (map (λ n. f [] (map become n) insertion) new)
+  formulasBy f q (delete d) asked = map (f d []) (deletion asked)
+  formulasBy f q (modify d ms) asked = map (f d ms) (modification asked)

@@ -116,3 +116,11 @@ min-spec a b = go (ltZ b a) (λ t. ltZ-yes t) (λ t. ltZ-no t)
     go : (c : Bool) → (T c → b <ℤ a) → (T (not c) → a ≤ℤ b) → (cond c b a ≤ℤ a) × (cond c b a ≤ℤ b) × ((cond c b a ≡ a) ⊎ (cond c b a ≡ b))
     go true f g = (omega (ints, f tt), omega ints, inr refl)
     go false f g = (omega ints, g tt, inl refl)
+
+-- the first, where it isn't the greater
+pub min-first : (a b : ℤ) → a ≤ℤ b → minZ a b ≡ a
+min-first a b h = go (min-spec a b .2)
+  where
+    go : (minZ a b ≡ a) ⊎ (minZ a b ≡ b) → minZ a b ≡ a
+    go (inl e) = e
+    go (inr e) = omega (ints, e, min-spec a b .0)

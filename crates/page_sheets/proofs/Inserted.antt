@@ -12,7 +12,8 @@ use lib.IntN.{ℤ}
 use Rattle.page_meaning.specs.Condition.{Condition, Row}
 use Rattle.page_meaning.specs.Contents.{Values, look, _∈_, Table, fits, Mode, keep, become, Change, insert, delete, modify, Question, columns, first, newValue}
 use Rattle.page_meaning.specs.Claims.{unlessAlone}
-use Rattle.page_meaning.specs.Trouble.{Formula, one, two, moved, put, C, irrelevance, computability}
+use Rattle.page_meaning.specs.Trouble.{Formula, one, two, moved, irrelevance, computability}
+use Rattle.page_meaning.proofs.Words.{C, put}
 use Rattle.page_meaning.specs.WellFormed.{ChangeOk}
 use Rattle.page_formulas.specs.Formulas.{putIn}
 use Rattle.page_formulas.proofs.Inserts.{putIn-fits, putIn-put, putIn-same}

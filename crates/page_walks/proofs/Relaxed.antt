@@ -1,27 +1,19 @@
 -- What one row of the relaxed grid is, in the numbers that are read, and that they are exact; and which rows stay.
 use Prim.Native.Nat.{ℕ, _+_, _≤_, _<_}
 use mathlib.Core.Path.{_≡_, sym, ap, _∙_}
-use mathlib.Core.Logic.{_⊎_, inl, inr}
 use mathlib.Core.List.{List, []}
 use native.Mathlib.Omega.{arith}
 use lib.IntN.{ℤ, pos, _+ℤ_}
 use lib.ListN.{length, getD}
 use lib.Signed.{_≤ℤ_}
 use Rattle.page_numbers.specs.Numbers.{minZ}
-use Rattle.page_numbers.proofs.Bridge.{ints, min-spec, +law}
+use Rattle.page_numbers.proofs.Bridge.{ints, min-first, +law}
 use Rattle.page_meaning.specs.Limits.{mostVertices}
 use Rattle.page_walks.specs.Grid.{Grid, row, weight, far, farN}
 use Rattle.page_walks.specs.Sizes.{wide, Bounded, RowWithin, AllWithin, Sized, filled}
 use Rattle.page_walks.specs.Near.{relax, via, Triangle}
 use Rattle.page_walks.proofs.Rows.{filled-same, filled-out, filled-more, filled-length, filled-own, set-own, read}
 use Rattle.page_walks.proofs.Sums.{bounded-more, bounded-plus}
-
-min-first : (a b : ℤ) → a ≤ℤ b → minZ a b ≡ a
-min-first a b h = go (min-spec a b .2)
-  where
-    go : (minZ a b ≡ a) ⊎ (minZ a b ≡ b) → minZ a b ≡ a
-    go (inl e) = e
-    go (inr e) = omega (ints, e, min-spec a b .0)
 
 -- row u with the new edge
 abbrev pub newRow : Grid → ℕ → ℕ → ℕ → ℤ → ℕ → List ℤ

@@ -2,10 +2,9 @@ use Prim.Native.Nat.{_-_, _≤_}
 use mathlib.Core.Path.{refl}
 use native.Mathlib.Omega.{arith}
 use denote.Ref.{now}
-use Rattle.page_formulas.specs.Formulas as F
 use Rattle.program.specs.Built.{programOf}
-use Rattle.formula.specs.Able.{deedOf, begun}
-use Rattle.formula.proofs.Parts.{Started, first-room, part-first, part-room, and-room, part-more, parts-all}
+use Rattle.formula.specs.Able.{begun}
+use Rattle.formula.proofs.Parts.{Started, begin-room, part-first, part-room, and-room, part-more, parts-all}
 use borrow.Author.Needs.{needs}
 use Rattle.formula.proofs.claims.line_of.Statement.{statement}
 use Rattle.formula.proofs.claims.line_of.Tie as tie
@@ -23,7 +22,7 @@ part-of-requires : tie.Need-part-of-requires Inv-loop μ-loop
 part-of-requires c κs =
     let at = c .before .before .before .before .before in
     let a = at .args in
-    (first-room (a .t6) (at .pre .2) (at .pre .3) (programOf (now (a .kinds)) (now (a .left)) (now (a .right)) (now (a .most)) begun) (at .pre .0) refl refl, at .pre .1)
+    (begin-room (a .t6) (at .pre .2) (at .pre .3) (programOf (now (a .kinds)) (now (a .left)) (now (a .right)) (now (a .most)) begun) (at .pre .0) refl refl, at .pre .1)
 
 loop-holds : tie.Need-loop-holds Inv-loop μ-loop
 loop-holds c =
@@ -36,7 +35,7 @@ loop-holds c =
         long = at .pre .0;
         count = refl;
         places = refl;
-        wrote = λ Q u. part-first (a .t6) (at .pre .2) (at .pre .3) (programOf (now (a .kinds)) (now (a .left)) (now (a .right)) (now (a .most)) begun) (at .pre .0) refl refl (F.programs Q (deedOf (a .d)) (F.rowSight Q (a .d .pairs))) _ (c .part-of .ensures Q u);
+        wrote = λ Q u. part-first (a .t6) (at .pre .2) (at .pre .3) (programOf (now (a .kinds)) (now (a .left)) (now (a .right)) (now (a .most)) begun) (at .pre .0) refl refl Q (a .d) _ (c .part-of .ensures Q u);
       },
     )
 
@@ -53,7 +52,7 @@ part-of-requires-2 c κs =
     let l = c .before .before .before .before .before .before .loop in
     let s = l .inv .2 in
     let g = at .pre .1 in
-    (part-room (a .t6) (at .pre .2) (at .pre .3) (s .begin) (s .long) (s .count) (s .places) (l .i) (l .inv .0) (c .before .before .before .before .before .loop-test .taken) _ _ (s .wrote (g .question) (g .under)), g)
+    (part-room (a .t6) (at .pre .2) (at .pre .3) (s .begin) (s .long) (s .count) (s .places) (l .i) (l .inv .0) (c .before .before .before .before .before .loop-test .taken) (g .question) (a .d) _ (s .wrote (g .question) (g .under)), g)
 
 emit-requires : tie.Need-emit-requires Inv-loop μ-loop
 emit-requires c κs =
@@ -62,7 +61,7 @@ emit-requires c κs =
     let l = c .before .before .before .before .before .before .before .before .before .before .before .loop in
     let s = l .inv .2 in
     let g = at .pre .1 in
-    and-room (a .t6) (at .pre .2) (at .pre .3) (s .begin) (s .long) (s .count) (s .places) (l .i) (l .inv .0) (c .before .before .before .before .before .before .before .before .before .before .loop-test .taken) _ _ (s .wrote (g .question) (g .under)) _ _ (c .before .before .before .before .part-of2 .ensures (g .question) (g .under))
+    and-room (a .t6) (at .pre .2) (at .pre .3) (s .begin) (s .long) (s .count) (s .places) (l .i) (l .inv .0) (c .before .before .before .before .before .before .before .before .before .before .loop-test .taken) (g .question) (a .d) _ (s .wrote (g .question) (g .under)) _ _ (c .before .before .before .before .part-of2 .ensures (g .question) (g .under))
 
 add-i : tie.Need-add-i Inv-loop μ-loop
 add-i c = omega (arith, c .before .before .before .before .before .before .before .before .before .before .before .before .before .before .before .before .before .before .before .pre .2 .few, c .before .before .before .before .before .before .before .before .before .before .before .loop-test .taken)
@@ -83,7 +82,7 @@ loop-again c =
         long = s .long;
         count = s .count;
         places = s .places;
-        wrote = λ Q u. part-more (a .t6) (at .pre .2) (F.programs Q (deedOf (a .d)) (F.rowSight Q (a .d .pairs))) (λ x y. refl) (l .i) (l .inv .0) (c .before .before .before .before .before .before .before .before .before .before .before .loop-test .taken) (s .begin) _ _ _ (s .wrote Q u) (c .before .before .before .before .before .part-of2 .ensures Q u) (c .emit .ensures);
+        wrote = λ Q u. part-more (a .t6) (at .pre .2) (l .i) (l .inv .0) (c .before .before .before .before .before .before .before .before .before .before .before .loop-test .taken) Q (a .d) (s .begin) _ _ _ (s .wrote Q u) (c .before .before .before .before .before .part-of2 .ensures Q u) (c .emit .ensures);
       },
     )
 
@@ -93,7 +92,7 @@ returns c Q u =
     let a = at .args in
     let l = c .before .loop in
     let s = l .inv .2 in
-    parts-all (a .t6) (at .pre .2) (at .pre .3) (s .begin) (s .long) (s .count) (s .places) (F.programs Q (deedOf (a .d)) (F.rowSight Q (a .d .pairs))) _ (l .i) (c .loop-test .left) (s .wrote Q u)
+    parts-all (a .t6) (at .pre .2) (at .pre .3) (s .begin) (s .long) (s .count) (s .places) Q (a .d) _ (l .i) (c .loop-test .left) (s .wrote Q u)
 
 pub line-of-spec : {M : Type 1} → statement M
 line-of-spec =

@@ -1,6 +1,4 @@
-use native.Mathlib.Omega.{arith}
-use Rattle.program.proofs.Weights.{more, within}
-use Rattle.formula.proofs.Parts.{claim-room, denied-room}
+use Rattle.formula.proofs.Parts.{claim-room, denied-room, part-said, part-denied}
 use Rattle.formula.proofs.claims.part_of.Statement.{statement}
 use Rattle.formula.proofs.claims.part_of.Tie as tie
 
@@ -11,13 +9,13 @@ emit-requires : tie.Need-emit-requires
 emit-requires c κs =
     let at = c .before .before .before .before .before .before .before .before .before .before in
     let l = at .pre .1 in
-    denied-room (at .args .p) (c .before .before .before .before .if1 .taken) (at .pre .0) (c .before .before .before .before .before .claim-of .ensures (l .question) (l .under))
+    denied-room (at .args .p) (at .pre .0) (c .before .before .before .before .if1 .taken) (c .before .before .before .before .before .claim-of .ensures (l .question) (l .under))
 
 returns : tie.Need-returns
-returns c Q u = rw (c .before .before .before .before .before .if1 .taken) (within (omega arith) (omega arith) (more (c .before .before .before .before .before .before .claim-of .ensures Q u) (c .emit .ensures)))
+returns c Q u = let a = c .before .before .before .before .before .before .before .before .before .before .before .args in part-denied Q (a .d) (a .p) (c .before .before .before .before .before .before .claim-of .ensures Q u) (c .emit .ensures) (c .before .before .before .before .before .if1 .taken)
 
 returns-2 : tie.Need-returns-2
-returns-2 c Q u = rw (c .if1 .left) (c .before .claim-of .ensures Q u)
+returns-2 c Q u = let a = c .before .before .before .before .before .before .args in part-said Q (a .d) (a .p) (c .before .claim-of .ensures Q u) (c .if1 .left)
 
 pub part-of-spec : {M : Type 1} → statement M
 part-of-spec = tie.close (tie.spec claim-of-requires emit-requires returns returns-2)

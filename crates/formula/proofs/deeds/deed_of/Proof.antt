@@ -3,10 +3,9 @@ use mathlib.Core.List.{[]}
 use native.Mathlib.Omega.{arith}
 use lib.ListN.{getD, take}
 use Rattle.page_meaning.specs.WellFormed.{Reads}
-use Rattle.page_formulas.proofs.Usable.{reads-become}
 use Rattle.sights.specs.Seen.{There}
-use Rattle.formula.specs.Able.{Buildable, deedFor, Done, noRow}
-use Rattle.formula.proofs.Grounds.{put-modes}
+use Rattle.formula.specs.Able.{Buildable, conditionFor, modesFor, Done, noRow}
+use Rattle.formula.proofs.Grounds.{put-modes, reads-become}
 use borrow.Author.Needs.{needs}
 use Rattle.formula.proofs.deeds.deed_of.Statement.{statement}
 use Rattle.formula.proofs.deeds.deed_of.Tie as tie
@@ -62,14 +61,14 @@ returns : tie.Need-returns
 returns c =
     let a = c .before .before .before .before .before .before .before .args in
     let q = a .q in
-    subst (λ v. Done q (deedFor v q (a .i)) (a .pairs) (c .under .result)) (sym (c .before .before .before .before .enum-told .given .1))
-    (subst (λ ms. Done q (record { condition = []; modes = ms }) (a .pairs) (c .under .result)) (put-modes (getD (q .change .rows) (a .i) noRow .values) _ (q .shape .width) (c .before .becoming .ensures)) (c .under .ensures))
+    subst (λ v. Done q (conditionFor v q) (modesFor v q (a .i)) (a .pairs) (c .under .result)) (sym (c .before .before .before .before .enum-told .given .1))
+    (subst (λ ms. Done q [] ms (a .pairs) (c .under .result)) (put-modes (getD (q .change .rows) (a .i) noRow .values) _ (q .shape .width) (c .before .becoming .ensures)) (c .under .ensures))
 
 returns-2 : tie.Need-returns-2
-returns-2 c = let a = c .before .before .before .before .before .before .args in subst (λ v. Done (a .q) (deedFor v (a .q) (a .i)) (a .pairs) (c .under2 .result)) (sym (c .before .before .before .enum-told2 .given .1)) (c .under2 .ensures)
+returns-2 c = let a = c .before .before .before .before .before .before .args in subst (λ v. Done (a .q) (conditionFor v (a .q)) (modesFor v (a .q) (a .i)) (a .pairs) (c .under2 .result)) (sym (c .before .before .before .enum-told2 .given .1)) (c .under2 .ensures)
 
 returns-3 : tie.Need-returns-3
-returns-3 c = let a = c .before .before .before .before .before .before .args in subst (λ v. Done (a .q) (deedFor v (a .q) (a .i)) (a .pairs) (c .under3 .result)) (sym (c .before .before .before .enum-told3 .given .1)) (c .under3 .ensures)
+returns-3 c = let a = c .before .before .before .before .before .before .args in subst (λ v. Done (a .q) (conditionFor v (a .q)) (modesFor v (a .q) (a .i)) (a .pairs) (c .under3 .result)) (sym (c .before .before .before .enum-told3 .given .1)) (c .under3 .ensures)
 
 pub deed-of-spec : {M : Type 1} → statement M
 deed-of-spec =

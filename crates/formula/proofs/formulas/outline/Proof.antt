@@ -46,7 +46,7 @@ line-of-requires c κs =
       at .pre .0,
       c .before .before .before .before .deed-of .ensures .legible,
       record { is = refl; some = l .ensures .some; few = l .ensures .few; long = l .ensures .long },
-      subst Fits (sym (l .ensures .is)) (line-fits (questionOf (a .q)) (a .q .change .verb) (eqb (a .asked) 1) (a .i) (which at .line)),
+      subst Fits (sym (l .ensures .is)) (line-fits (a .q .change .verb) (eqb (a .asked) 1) (a .i) (which at .line)),
     )
 
 vertices-requires : tie.Need-vertices-requires
