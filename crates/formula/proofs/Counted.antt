@@ -1,6 +1,6 @@
 -- How many formulas a question has.
 use mathlib.Core.Path.{_≡_, refl, sym, ap, _∙_}
-use mathlib.Core.Bool.{Bool, true, false, cond}
+use mathlib.Core.Bool.{Bool, true, false}
 use mathlib.Core.List.{List, [], _∷_, map}
 use Prim.Native.Nat.{ℕ, suc, _+_, _<_}
 use native.Mathlib.Omega.{arith}
@@ -10,14 +10,14 @@ use lib.ListN.{length, take, drop, length-map, length-drop}
 use lib.Seq.{length-take-le}
 use Rattle.page_meaning.specs.Contents.{Range, Table}
 use Rattle.page_meaning.specs.Contents as M
-use Rattle.page_meaning.specs.Claims.{unlessAlone}
+use Rattle.page_meaning.specs.Claims.{insertion, unlessAlone}
 use Rattle.page_questions.specs.Layout.{tablesOf, firstOf, widthOf, questionFrom}
-use Rattle.question.specs.Held.{rowOf, rangesOf, widthsOf, questionOf}
+use Rattle.question.specs.Held.{rowOf, rangesOf, widthsOf, conditionOf, questionOf}
 use Rattle.question.specs.declared.types.Question.{Question}
 use Rattle.question.specs.declared.types.Verb.the-variants.{Insert, Delete, Modify}
 use Rattle.page_formulas.specs.Formulas as F
-use Rattle.formula.specs.Able.{Able, Widths, deed, settledModes, C}
-use Rattle.formula.proofs.Numbered.{by, by-delete, by-modify}
+use Rattle.formula.specs.Able.{Able, Widths, settledModes}
+use Rattle.formula.proofs.Numbered.{lists, by}
 
 tables-length : (ws : List ℕ) (gs : List Range) → length (tablesOf ws gs) ≡ length ws
 unfolding tablesOf
@@ -37,10 +37,13 @@ together (t ∷ ts) us l h = refl
 abbrev newRows : Question → List M.Values
 newRows q = map (rowOf (q .shape .width)) (take (q .change .count) (q .change .rows))
 
+abbrev puts : Question → List F.Formula
+puts q = map (λ n. F.formula (questionOf q) [] (map M.become n) insertion) (newRows q)
+
 module _ (q : Question) (a : Able q) (w : Widths q) where
-  listed-length : length (F.irrelevance (questionOf q) (M.insert (newRows q))) ≡ q .change .count
+  listed-length : length (puts q) ≡ q .change .count
   listed-length =
-      length-map (newRows q) (λ n. F.oneRow (questionOf q) (C (questionOf q) (F.after (questionOf q) (map M.become n) F.firstSight)))
+      length-map (newRows q) (λ n. F.formula (questionOf q) [] (map M.become n) insertion)
       ∙ length-map (take (q .change .count) (q .change .rows)) (rowOf (q .shape .width))
       ∙ length-take-le (q .change .count) (q .change .rows) (omega (arith, a .rows, a .whole .held .change .fewRows))
 
@@ -53,31 +56,31 @@ module _ (q : Question) (a : Able q) (w : Widths q) where
       omega (arith, tables-length (take t ws) (rangesOf q), tables-length (drop (suc t) ws) (drop (firstOf ws t + widthOf ws t) (rangesOf q)), length-take-le t ws (omega (arith, n, a .whole .held .shape .changed)), length-drop (suc t) ws, n, a .whole .held .shape .changed)
 
   module _ (asked : ℕ) (v : q .change .verb ≡ Insert) where
-    pub first-count : asked ≡ 1 → q .change .count ≡ length (F.formulas (questionOf q) asked)
-    first-count e = sym (ap length (by q asked Insert v ∙ ap (λ b. cond b (F.irrelevance (questionOf q) (M.insert (newRows q))) (unlessAlone (questionOf q .front) (questionOf q .back) (F.irrelevance (questionOf q) (M.insert (newRows q))))) (eq-eqb asked 1 e)) ∙ listed-length)
+    as-asked : (b : Bool) → eqb asked 1 ≡ b → F.formulas (questionOf q) asked ≡ lists (questionOf q) (M.insert (newRows q)) b
+    as-asked b e = by q asked Insert v ∙ ap (lists (questionOf q) (M.insert (newRows q))) e
 
-    second : (asked ≡ 1 → ⊥) → F.formulas (questionOf q) asked ≡ unlessAlone (questionOf q .front) (questionOf q .back) (F.irrelevance (questionOf q) (M.insert (newRows q)))
-    second e = by q asked Insert v ∙ ap (λ b. cond b (F.irrelevance (questionOf q) (M.insert (newRows q))) (unlessAlone (questionOf q .front) (questionOf q .back) (F.irrelevance (questionOf q) (M.insert (newRows q))))) (ne-eqb asked 1 e)
+    pub first-count : asked ≡ 1 → q .change .count ≡ length (F.formulas (questionOf q) asked)
+    first-count e = sym (ap length (as-asked true (eq-eqb asked 1 e)) ∙ listed-length)
 
     pub alone-count : (asked ≡ 1 → ⊥) → q .shape .tables ≡ 1 → 0 ≡ length (F.formulas (questionOf q) asked)
-    alone-count e one = sym (ap length (second e ∙ alone (questionOf q .front) (questionOf q .back) (F.irrelevance (questionOf q) (M.insert (newRows q))) (omega (arith, others))))
+    alone-count e one = sym (ap length (as-asked false (ne-eqb asked 1 e) ∙ alone (questionOf q .front) (questionOf q .back) (puts q) (omega (arith, others))))
 
     pub together-count : (asked ≡ 1 → ⊥) → (q .shape .tables ≡ 1 → ⊥) → q .change .count ≡ length (F.formulas (questionOf q) asked)
-    together-count e many = sym (ap length (second e ∙ together (questionOf q .front) (questionOf q .back) (F.irrelevance (questionOf q) (M.insert (newRows q))) (omega (arith, others, a .whole .held .shape .someTable))) ∙ listed-length)
+    together-count e many = sym (ap length (as-asked false (ne-eqb asked 1 e) ∙ together (questionOf q .front) (questionOf q .back) (puts q) (omega (arith, others, a .whole .held .shape .someTable))) ∙ listed-length)
 
 -- ---- a delete and a modify
 
 module _ (q : Question) (asked : ℕ) where
   pub delete-count : q .change .verb ≡ Delete → 1 ≡ length (F.formulas (questionOf q) asked)
-  delete-count e = go (eqb asked 1) ∙ sym (ap length (by-delete q asked e))
+  delete-count e = go (eqb asked 1) ∙ sym (ap length (by q asked Delete e))
     where
-      go : (b : Bool) → 1 ≡ length (cond b (F.irrelevance (questionOf q) (M.delete (deed q))) (F.computability (questionOf q) (M.delete (deed q))))
+      go : (b : Bool) → 1 ≡ length (lists (questionOf q) (M.delete (conditionOf (q .change .condition))) b)
       go true = refl
       go false = refl
 
   module _ (e : q .change .verb ≡ Modify) where
-    counted : (b : Bool) → eqb asked 1 ≡ b → length (F.formulas (questionOf q) asked) ≡ length (cond b (F.irrelevance (questionOf q) (M.modify (deed q) (settledModes q))) (F.computability (questionOf q) (M.modify (deed q) (settledModes q))))
-    counted b k = ap length (by-modify q asked e) ∙ ap (λ b. length (cond b (F.irrelevance (questionOf q) (M.modify (deed q) (settledModes q))) (F.computability (questionOf q) (M.modify (deed q) (settledModes q))))) k
+    counted : (b : Bool) → eqb asked 1 ≡ b → length (F.formulas (questionOf q) asked) ≡ length (lists (questionOf q) (M.modify (conditionOf (q .change .condition)) (settledModes q)) b)
+    counted b k = ap length (by q asked Modify e) ∙ ap (λ b. length (lists (questionOf q) (M.modify (conditionOf (q .change .condition)) (settledModes q)) b)) k
 
     pub modify-first : asked ≡ 1 → 3 ≡ length (F.formulas (questionOf q) asked)
     modify-first k = sym (counted true (eq-eqb asked 1 k))

@@ -1,6 +1,7 @@
-pub mod Shown
-pub mod Troubled
-pub mod PutIns
+pub mod Fills
+pub mod Views
+pub mod Parts
+pub mod Grounds
 pub mod Numbered
 pub mod Ready
 pub mod Counted

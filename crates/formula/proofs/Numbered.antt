@@ -1,45 +1,48 @@
--- The formulas of a question by its change.
-use mathlib.Core.Path.{_≡_, refl, ap, _∙_}
+-- Formula i of a question: its line of the table, read under its deed.
+use mathlib.Core.Path.{_≡_, refl, sym, ap, _∙_, subst}
 use mathlib.Core.Bool.{Bool, true, false, cond}
 use mathlib.Core.List.{List, [], _∷_, map}
-use Prim.Native.Nat.{ℕ, _<_}
+use Prim.Native.Nat.{ℕ, zero, suc, _<_}
 use native.Mathlib.Omega.{arith}
 use lib.Dec.{eqb}
-use lib.ListN.{length, take, length-map}
-use lib.Seq.{length-take-le}
-use Rattle.page_meaning.specs.Condition.{Condition}
-use Rattle.page_meaning.specs.Contents.{Table, insert, delete, modify}
+use lib.ListN.{length, getD, take, length-map}
+use lib.Seq.{getD-take, length-take-le}
+use Rattle.page_meaning.specs.Contents.{Table, Change, Mode, become, columns}
 use Rattle.page_meaning.specs.Contents as M
-use Rattle.page_meaning.specs.Claims.{unlessAlone}
+use Rattle.page_meaning.specs.Claims.{Part, Line, insertion, deletion, modification, readParts, unlessAlone, formulasBy}
+use Rattle.page_meaning.specs.Condition.{Condition}
+use Rattle.page_questions.specs.Accepted.{Every}
 use Rattle.page_questions.specs.Layout.{questionFrom}
-use Rattle.question.specs.Held.{changeBy, changeOf, rowOf, questionOf}
+use Rattle.question.specs.Held.{changeBy, changeOf, rowOf, conditionOf, questionOf}
 use Rattle.question.specs.declared.types.Question.{Question}
 use Rattle.question.specs.declared.types.Verb.{Verb}
 use Rattle.question.specs.declared.types.Verb.the-variants.{Insert, Delete, Modify}
+use Rattle.page_formulas.specs.Costs.{Fits}
 use Rattle.page_formulas.specs.Formulas as F
-use Rattle.formula.specs.Able.{Able, deed, settledModes, askedOf, C}
+use Rattle.page_formulas.proofs.Readings.{insertion-fits, deletion-fits, modification-fits}
+use Rattle.program.specs.Built.{Means}
+use Rattle.sights.specs.Seen.{modesOf}
+use Rattle.program.specs.Compiled.{Compiled, Spans}
+use Rattle.program.specs.declared.types.Formula as compiled
+use Rattle.formula.specs.Able.{Able, Buildable, formulaAt, noRow, firstOf, restOf, lineBy, lineFor, conditionFor, modesFor, rowsOf, wordsOf, Numbered, Tabled, Done}
+use Rattle.formula.specs.declared.types.Line as declared
+use Rattle.formula.specs.declared.types.Deed as types
+use Rattle.formula.proofs.Fills.{map-at}
 
 pub change-is : (q : Question) → questionOf q .change ≡ changeOf (q .shape .width) (q .change)
 unfolding questionOf questionFrom
 change-is q = refl
 
-module _ (q : Question) (asked : ℕ) where
-  pub by : (v : Verb) → q .change .verb ≡ v → F.formulas (questionOf q) asked ≡ askedOf asked (questionOf q) (changeBy v (q .shape .width) (q .change))
-  by v e = ap (λ ch. askedOf asked (questionOf q) ch) (change-is q ∙ ap (λ v. changeBy v (q .shape .width) (q .change)) e)
+-- the formulas of a change, as asked
+abbrev pub lists : M.Question → Change → Bool → List F.Formula
+lists Q ch b = formulasBy (F.formula Q) Q ch b
 
-  pub by-delete : q .change .verb ≡ Delete → F.formulas (questionOf q) asked ≡ askedOf asked (questionOf q) (delete (deed q))
-  by-delete e = by Delete e
+pub asked-are : (Q : M.Question) (ch : Change) (b : Bool) → cond b (F.irrelevance Q ch) (F.computability Q ch) ≡ lists Q ch b
+asked-are Q ch true = refl
+asked-are Q ch false = refl
 
-  pub by-modify : q .change .verb ≡ Modify → F.formulas (questionOf q) asked ≡ askedOf asked (questionOf q) (modify (deed q) (settledModes q))
-  by-modify e = by Modify e
-
--- a delete has one formula
-pub only-one : (asked : ℕ) (q : M.Question) (d : Condition) (i : ℕ) → i < length (askedOf asked q (delete d)) → i ≡ 0
-only-one asked q d i h = go (eqb asked 1) h
-  where
-    go : (b : Bool) → i < length (cond b (F.irrelevance q (delete d)) (F.computability q (delete d))) → i ≡ 0
-    go true h = omega arith
-    go false h = omega arith
+pub by : (q : Question) (asked : ℕ) (v : Verb) → q .change .verb ≡ v → F.formulas (questionOf q) asked ≡ lists (questionOf q) (changeBy v (q .shape .width) (q .change)) (eqb asked 1)
+by q asked v e = asked-are (questionOf q) (questionOf q .change) (eqb asked 1) ∙ ap (λ ch. lists (questionOf q) ch (eqb asked 1)) (change-is q ∙ ap (λ v. changeBy v (q .shape .width) (q .change)) e)
 
 -- a list that is not left out is the list
 not-left-out : (ts us : List Table) (l : List F.Formula) (i : ℕ) → i < length (unlessAlone ts us l) → unlessAlone ts us l ≡ l
@@ -47,17 +50,88 @@ not-left-out [] [] l i h = absurd (omega arith)
 not-left-out [] (u ∷ us) l i h = refl
 not-left-out (t ∷ ts) us l i h = refl
 
-pub by-insert : (q : Question) (asked i : ℕ) → q .change .verb ≡ Insert → i < length (F.formulas (questionOf q) asked) → F.formulas (questionOf q) asked ≡ F.irrelevance (questionOf q) (insert (map (rowOf (q .shape .width)) (take (q .change .count) (q .change .rows))))
-by-insert q asked i e h = let d = by q asked Insert e in d ∙ go (eqb asked 1) (rw d at h)
-  where
-    new : List M.Values
-    new = map (rowOf (q .shape .width)) (take (q .change .count) (q .change .rows))
+-- ---- by the verb
 
-    go : (b : Bool) → i < length (cond b (F.irrelevance (questionOf q) (insert new)) (F.computability (questionOf q) (insert new))) → cond b (F.irrelevance (questionOf q) (insert new)) (F.computability (questionOf q) (insert new)) ≡ F.irrelevance (questionOf q) (insert new)
-    go true k = refl
-    go false k = not-left-out (questionOf q .front) (questionOf q .back) (F.irrelevance (questionOf q) (insert new)) i k
+pub record Found (q : Question) (v : Verb) (b : Bool) (i : ℕ) (l : List F.Formula) : Type 0 where
+  pub row : v ≡ Insert → i < q .change .count
+  pub line : Numbered v b i
+  pub formula : formulaAt l i ≡ F.formula (questionOf q) (conditionFor v q) (modesFor v q i) (lineFor v b i)
 
-pub row-number : (q : Question) (asked i : ℕ) → Able q → q .change .verb ≡ Insert → i < length (F.formulas (questionOf q) asked) → i < q .change .count
-row-number q asked i a e h =
-    let rs = take (q .change .count) (q .change .rows) in
-    omega (arith, ap length (by-insert q asked i e h), length-map (map (rowOf (q .shape .width)) rs) (λ n. F.oneRow (questionOf q) (C (questionOf q) (F.after (questionOf q) (map M.become n) F.firstSight))), length-map rs (rowOf (q .shape .width)), length-take-le (q .change .count) (q .change .rows) (omega (arith, a .rows, a .whole .held .change .fewRows)))
+module _ (q : Question) (i : ℕ) where
+  abbrev new : List M.Values
+  new = map (rowOf (q .shape .width)) (take (q .change .count) (q .change .rows))
+
+  abbrev put : M.Values → F.Formula
+  put n = F.formula (questionOf q) [] (map become n) insertion
+
+  in-rows : Able q → i < length (map put new) → i < q .change .count
+  in-rows a h = omega (arith, length-map new put, length-map (take (q .change .count) (q .change .rows)) (rowOf (q .shape .width)), length-take-le (q .change .count) (q .change .rows) (omega (arith, a .rows, a .whole .held .change .fewRows)))
+
+  row-found : Able q → (b : Bool) → i < length (map put new) → Found q Insert b i (map put new)
+  row-found a b h =
+      let r = take (q .change .count) (q .change .rows) in
+      let k = in-rows a h in
+      record {
+        row = λ e. k;
+        line = tt;
+        formula =
+            map-at put new i (rowOf (q .shape .width) noRow) F.noFormula (omega (arith, length-map new put))
+            ∙ ap put (map-at (rowOf (q .shape .width)) r i noRow _ (omega (arith, length-map new put, length-map r (rowOf (q .shape .width)))) ∙ ap (rowOf (q .shape .width)) (getD-take (q .change .count) (q .change .rows) i noRow k));
+      }
+
+  line-found : (v : Verb) (b : Bool) (ls : List Line) → (v ≡ Insert → ⊥) → (i < length ls → Numbered v b i) → getD ls i insertion ≡ lineFor v b i → i < length (map (F.formula (questionOf q) (conditionFor v q) (modesFor v q i)) ls) → Found q v b i (map (F.formula (questionOf q) (conditionFor v q) (modesFor v q i)) ls)
+  line-found v b ls other there is h =
+      let f = F.formula (questionOf q) (conditionFor v q) (modesFor v q i) in
+      let k : i < length ls = omega (arith, length-map ls f) in
+      record { row = λ e. absurd (other e); line = there k; formula = map-at f ls i insertion F.noFormula k ∙ ap f is }
+
+  found-by : (v : Verb) (b : Bool) → Buildable v q → i < length (lists (questionOf q) (changeBy v (q .shape .width) (q .change)) b) → Found q v b i (lists (questionOf q) (changeBy v (q .shape .width) (q .change)) b)
+  found-by Insert true a h = row-found a true h
+  found-by Insert false a h =
+      let e = not-left-out (questionOf q .front) (questionOf q .back) (map put new) i h in
+      subst (Found q Insert false i) (sym e) (row-found a false (subst (λ l. i < length l) e h))
+  found-by Delete b a h = line-found Delete b (deletion b) (λ e. not-insert e) (λ k. k) refl h
+    where
+      not-insert : _≡_ {A = Verb} Delete Insert → ⊥
+      not-insert e = let z : _≡_ {A = ℕ} 0 1 = cc in absurd (omega arith)
+  found-by Modify b a h = line-found Modify b (modification b) (λ e. not-insert e) (λ k. k) refl h
+    where
+      not-insert : _≡_ {A = Verb} Modify Insert → ⊥
+      not-insert e = let z : _≡_ {A = ℕ} 0 1 = cc in absurd (omega arith)
+
+pub found : (q : Question) (asked i : ℕ) → Buildable (q .change .verb) q → i < length (F.formulas (questionOf q) asked) → Found q (q .change .verb) (eqb asked 1) i (F.formulas (questionOf q) asked)
+found q asked i a h =
+    let e = by q asked (q .change .verb) refl in
+    subst (Found q (q .change .verb) (eqb asked 1) i) (sym e) (found-by q i (q .change .verb) (eqb asked 1) a (subst (λ l. i < length l) e h))
+
+-- a declared line is the table's, by what was asked and its number
+pub tabled : {r : declared.Line} (v : Verb) (b k : Bool) (i j : ℕ) → b ≡ k → i ≡ j → Tabled r (lineFor v k j) → Tabled r (lineFor v b i)
+tabled {r} v b k i j e h t = subst (λ b. Tabled r (lineFor v b i)) (sym e) (subst (λ i. Tabled r (lineFor v k i)) (sym h) t)
+
+-- ---- every line finds room
+
+fits-at : (ls : List Line) (i : ℕ) → i < length ls → Every Fits ls → Fits (getD ls i insertion)
+fits-at [] i h e = absurd (omega arith)
+fits-at (l ∷ ls) zero h e = e .0
+fits-at (l ∷ ls) (suc i) h e = fits-at ls i (omega arith) (e .1)
+
+pub line-fits : (v : Verb) (b : Bool) (i : ℕ) → Numbered v b i → Fits (lineFor v b i)
+line-fits Insert b i h = insertion-fits
+line-fits Delete b i h = fits-at (deletion b) i h (deletion-fits b)
+line-fits Modify b i h = fits-at (modification b) i h (modification-fits b)
+
+-- ---- a formula from its program and its vertices
+
+outlined : (Q : M.Question) (f : compiled.Formula) (d : Condition) (ms : List Mode) (b : Bool) (p : Part) (ps : List Part) → f .pairs ≡ b → Means (f .program) (readParts (F.programs Q d ms) (rowsOf Q b) p ps) → Spans (f .vertices) (cond b (F.bothRanges Q) (F.firstRanges (columns Q))) → Compiled f (F.formula Q d ms (lineBy b p ps))
+outlined Q f d ms true p ps k m s = record { program = m; pairs = k; vertices = s }
+outlined Q f d ms false p ps k m s = record { program = m; pairs = k; vertices = s }
+
+module _ (q : Question) (f : compiled.Formula) (l : declared.Line) (d : types.Deed) (v : Verb) (b : Bool) (i : ℕ) (fs : List F.Formula) (w : Found q v b i fs) (t : Tabled l (lineFor v b i)) (n : Done q (conditionFor v q) (modesFor v q i) (l .pairs) d) where
+  pub written : f .pairs ≡ l .pairs → Means (f .program) (readParts (wordsOf (questionOf q) d) (rowsOf (questionOf q) (d .pairs)) (firstOf l) (restOf l)) → Spans (f .vertices) (cond (l .pairs) (F.bothRanges (questionOf q)) (F.firstRanges (columns (questionOf q)))) → Compiled f (formulaAt fs i)
+  written e m s =
+      let Q = questionOf q in
+      let k = subst (λ two. Means (f .program) (readParts (wordsOf Q d) (rowsOf Q two) (firstOf l) (restOf l))) (n .pairs) m in
+      subst (Compiled f) (sym (w .formula))
+      (subst (λ x. Compiled f (F.formula Q x (modesFor v q i) (lineFor v b i))) (n .condition)
+      (subst (λ x. Compiled f (F.formula Q (conditionOf (d .chosen)) x (lineFor v b i))) (n .modes)
+      (subst (λ x. Compiled f (F.formula Q (conditionOf (d .chosen)) (modesOf (d .sight)) x)) (t .is) (outlined Q f (conditionOf (d .chosen)) (modesOf (d .sight)) (l .pairs) (firstOf l) (restOf l) e k s))))

@@ -2,6 +2,7 @@
 use mathlib.Core.Path.{_≡_, subst}
 use Prim.Native.Nat.{ℕ, _<_}
 use lib.ListN.{length}
+use Rattle.page_meaning.specs.Limits.{mostColumns, mostTokens, mostRows}
 use Rattle.page_meaning.specs.Contents.{columns}
 use Rattle.page_meaning.specs.WellFormed.{Uses, Reads}
 use Rattle.question.specs.Held.{conditionOf, changeBy, questionOf, Held}
@@ -15,7 +16,7 @@ use Rattle.formula.proofs.Numbered.{change-is}
 use Rattle.sights.proofs.Shapes.{columns-length, condition-is}
 use Rattle.page_formulas.proofs.Usable.{Exists, ChangeUsable, usable}
 
-module _ (q : Question) (h : Held q) (a : length (q .columns) ≡ 8) (b : length (q .condition .tokens) ≡ 16) (c : length (q .change .rows) ≡ 4) (d : length (q .change .condition .tokens) ≡ 16) (e : length (q .change .settings) ≡ 8) (ok : Accepted (questionOf q)) where
+module _ (q : Question) (h : Held q) (a : length (q .columns) ≡ mostColumns) (b : length (q .condition .tokens) ≡ mostTokens) (c : length (q .change .rows) ≡ mostRows) (d : length (q .change .condition .tokens) ≡ mostTokens) (e : length (q .change .settings) ≡ mostColumns) (ok : Accepted (questionOf q)) where
   whole : Whole q
   whole = record { held = h; long = a }
 
@@ -29,6 +30,7 @@ module _ (q : Question) (h : Held q) (a : length (q .columns) ≡ 8) (b : length
         whole = whole;
         long = e;
         rows = c;
+        tokens = d;
         listed =
             record {
               long = b;

@@ -1,83 +1,80 @@
 // A formula of a question by its number.
-use crate::inserting::inserted;
-use crate::troubles::both_move;
-use crate::troubles::enters;
-use crate::troubles::leaves;
-use crate::troubles::one_moves;
-use crate::troubles::one_removed;
-use crate::troubles::one_stays;
-use crate::troubles::removed;
-use crate::troubles::shows;
+use crate::claims::line_of;
+use crate::deeds::deed_of;
+use crate::lines::line_at;
 use program::types::Formula;
+use program::types::INSTRUCTIONS;
+use program::types::Outline;
+use program::types::PLACES;
+use program::types::Program;
 use question::types::Question;
 use question::types::Verb;
+use sights::vertices::vertices;
 ghost use mathlib.Core.Path.{_≡_};
 ghost use Prim.Native.Nat.{_<_};
 ghost use lib.ListN.{length};
-ghost use Rattle.page_meaning.specs.Contents.{delete, modify};
 ghost use Rattle.question.specs.Held.{questionOf, Held};
 ghost use Rattle.page_questions.specs.Accepted.{Accepted};
 ghost use Rattle.page_formulas.specs.Formulas.{formulas};
-ghost use Rattle.program.specs.Compiled.{Compiled};
-ghost use Rattle.formula.specs.Able.{Able, Widths, Chooses, Modifies, Buildable, deed, settledModes, formulaAt, askedOf};
+ghost use Rattle.program.specs.Built.{programOf, Long};
+ghost use Rattle.program.specs.Compiled.{Compiled, formulaOf};
+ghost use Rattle.formula.specs.Able.{Able, Widths, begun, formulaAt};
 
-pub fn deleted(q: Question, asked: u8) -> Formula
-    requires { ⌜ Chooses q ⌝ }
-    ensures { λ r. ⌜ Compiled r (formulaAt (askedOf asked (questionOf q) (delete (deed q))) 0) ⌝ }
-{
-    if asked == 1 {
-        return removed(q);
-    }
-    one_removed(q)
-}
-
-pub fn modified(q: Question, asked: u8, i: usize) -> Formula
-    requires { ⌜ Modifies q × (i < length (askedOf asked (questionOf q) (modify (deed q) (settledModes q)))) ⌝ }
-    ensures { λ r. ⌜ Compiled r (formulaAt (askedOf asked (questionOf q) (modify (deed q) (settledModes q))) i) ⌝ }
-{
-    if asked == 1 {
-        if i == 0 {
-            return leaves(q);
-        }
-        if i == 1 {
-            return enters(q);
-        }
-        return shows(q);
-    }
-    if i == 0 {
-        return enters(q);
-    }
-    if i == 1 {
-        return one_stays(q);
-    }
-    if i == 2 {
-        return both_move(q);
-    }
-    one_moves(q)
-}
-
-pub fn built(q: Question, asked: u8, i: usize) -> Formula
-    requires { ⌜ Buildable (q .change .verb) q × (i < length (formulas (questionOf q) asked)) ⌝ }
-    ensures { λ r. ⌜ Compiled r (formulaAt (formulas (questionOf q) asked) i) ⌝ }
+// Formula i of an accepted question, its program written into the lent arrays.
+pub fn outline(
+    kinds: &mut [u8; INSTRUCTIONS],
+    left: &mut [u8; PLACES],
+    right: &mut [u8; PLACES],
+    most: &mut [i64; PLACES],
+    q: Question,
+    asked: u8,
+    i: usize,
+) -> Outline
+    requires { ⌜ Long (programOf (now kinds) (now left) (now right) (now most) begun) × Held q × Accepted (questionOf q) × (i < length (formulas (questionOf q) asked)) ⌝ }
+    ensures { λ r. ⌜ Compiled (formulaOf (now (kinds .exit)) (now (left .exit)) (now (right .exit)) (now (most .exit)) r) (formulaAt (formulas (questionOf q) asked) i) ⌝ }
 {
     let change = q.change;
     let verb = change.verb;
-    match verb {
-        Verb::Insert => inserted(q, i),
-        Verb::Delete => deleted(q, asked),
-        Verb::Modify => modified(q, asked, i),
+    let line = line_at(verb, asked, i);
+    let pairs = line.pairs;
+    let deed = deed_of(q, i, pairs);
+    let end = line_of(kinds, left, right, most, deed, line);
+    let columns = q.columns;
+    Outline {
+        count: end.count,
+        places: end.places,
+        pairs,
+        vertices: vertices(columns, q.shape.total, pairs),
     }
 }
 
-// Formula i of an accepted question.
+// The same by value.
 pub fn formula(q: Question, asked: u8, i: usize) -> Formula
     requires { ⌜ Held q × Accepted (questionOf q) × (i < length (formulas (questionOf q) asked)) ⌝ }
     ensures { λ r. ⌜ Compiled r (formulaAt (formulas (questionOf q) asked) i) ⌝ }
 {
-    built(q, asked, i)
+    let mut kinds = [0u8; INSTRUCTIONS];
+    let mut left = [0u8; PLACES];
+    let mut right = [0u8; PLACES];
+    let mut most = [0i64; PLACES];
+    let o = outline(&mut kinds, &mut left, &mut right, &mut most, q, asked, i);
+    let vertices = o.vertices;
+    let program = Program {
+        kinds,
+        count: o.count,
+        left,
+        right,
+        most,
+        places: o.places,
+    };
+    Formula {
+        program,
+        pairs: o.pairs,
+        vertices,
+    }
 }
 
-// "none if the list has one table, else as asked 1"
+// FORMAT 5.3: asked 2, an insert into the only table has none.
 pub fn insert_count(q: Question, asked: u8) -> usize
     requires { ⌜ Able q × Widths q × (q .change .verb ≡ Verb.Insert) ⌝ }
     ensures { λ r. ⌜ r ≡ length (formulas (questionOf q) asked) ⌝ }

@@ -1,6 +1,6 @@
-// The formulas of a question as programs over vertices: specs/Formulas says what they are.
+// The formulas of a question as programs over vertices, by one table (FORMAT 5.3): page_formulas' specs/Formulas says what they are.
+pub mod claims;
+pub mod deeds;
 pub mod formulas;
-pub mod inserting;
-pub mod listing;
-pub mod telling;
-pub mod troubles;
+pub mod lines;
+pub mod types;

@@ -4,7 +4,8 @@ use mathlib.Core.List.{List, [], _∷_, _++_, map, append-assoc, append-nil}
 use Prim.Native.Nat.{ℕ, _+_, _<_}
 use native.Mathlib.Numerals.{add-one}
 use native.Mathlib.Omega.{arith}
-use lib.ListN.{length, take, set, length-append}
+use lib.IntN.{ℤ}
+use lib.ListN.{length, take, set, length-append, length-set}
 use lib.Seq.{take-suc-set}
 use Rattle.page_formulas.specs.Program.{place, andI, orI, notI, trueI, falseI, Place}
 use Rattle.page_formulas.specs.Kinds.{kindOf, kindsOf}
@@ -12,7 +13,7 @@ use Rattle.page_formulas.specs.Program as P
 use Rattle.program.specs.declared.types.Program.{Program}
 use Rattle.program.specs.declared.types.Joint.{Joint}
 use Rattle.program.specs.declared.types.Joint.the-variants.{And, Or, Not, True, False}
-use Rattle.program.specs.Built.{instrOf, Emits, Means}
+use Rattle.program.specs.Built.{mostInstructions, mostPlaces, instrOf, Room, Emits, Builds, Means}
 
 -- one more entry after the first n of an array of N
 pub push : {A : Type 0} (N : ℕ) (l : List A) (n : ℕ) (a : A) → length l ≡ N → n < N → take (n + 1) (set l n a) ≡ take n l ++ (a ∷ [])
@@ -86,3 +87,47 @@ no-place Or = refl
 no-place Not = refl
 no-place True = refl
 no-place False = refl
+
+-- ---- one instruction more
+
+pub emit-joint : (p : Program) (j : Joint) (k : ℕ) → Room p 1 0 → k ≡ kindOf (instrOf j) → Builds p (record { kinds = set (p .kinds) (p .count) k; count = p .count + 1; left = p .left; right = p .right; most = p .most; places = p .places }) 1 0 (instrOf j ∷ [])
+unfolding kindsOf
+emit-joint p j k room e =
+    record {
+      long = record { kinds = length-set (p .kinds) (p .count) k ∙ room .long .kinds; left = room .long .left; right = room .long .right; most = room .long .most };
+      emits =
+          record {
+            kinds = push mostInstructions (p .kinds) (p .count) k (room .long .kinds) (omega (arith, room .instructions)) ∙ ap (λ k. take (p .count) (p .kinds) ++ (k ∷ [])) e;
+            left = rw (no-place j) (sym (append-nil _));
+            right = rw (no-place j) (sym (append-nil _));
+            most = rw (no-place j) (sym (append-nil _));
+            count = refl;
+            places = rw (no-place j) (omega arith);
+          };
+      few = omega arith;
+      fewPlaces = omega arith;
+    }
+
+pub emit-place : (p : Program) (a b : ℕ) (k : ℤ) → Room p 1 1 → Builds p (record { kinds = set (p .kinds) (p .count) 0; count = p .count + 1; left = set (p .left) (p .places) a; right = set (p .right) (p .places) b; most = set (p .most) (p .places) k; places = p .places + 1 }) 1 1 (place (record { left = a; right = b; most = k }) ∷ [])
+unfolding kindsOf P.places
+emit-place p a b k room =
+    record {
+      long =
+          record {
+            kinds = length-set (p .kinds) (p .count) 0 ∙ room .long .kinds;
+            left = length-set (p .left) (p .places) a ∙ room .long .left;
+            right = length-set (p .right) (p .places) b ∙ room .long .right;
+            most = length-set (p .most) (p .places) k ∙ room .long .most;
+          };
+      emits =
+          record {
+            kinds = push mostInstructions (p .kinds) (p .count) 0 (room .long .kinds) (omega (arith, room .instructions));
+            left = push mostPlaces (p .left) (p .places) a (room .long .left) (omega (arith, room .places));
+            right = push mostPlaces (p .right) (p .places) b (room .long .right) (omega (arith, room .places));
+            most = push mostPlaces (p .most) (p .places) k (room .long .most) (omega (arith, room .places));
+            count = refl;
+            places = refl;
+          };
+      few = omega arith;
+      fewPlaces = omega arith;
+    }

@@ -17,6 +17,7 @@ use Rattle.page_formulas.specs.Program.{Place, places, Program}
 use Rattle.page_formulas.specs.Kinds.{nowhere}
 use Rattle.page_formulas.specs.Vertices.{Ranges, isSome, present}
 use Rattle.page_formulas.specs.Formulas.{Formula}
+use Rattle.program.specs.Built.{mostInstructions, mostPlaces}
 use Rattle.program.specs.Compiled.{Compiled, Spanned, SmallSpans}
 use Rattle.program.specs.declared.types.Formula as compiled
 use Rattle.page_formulas.specs.Proper.{SmallPlace, SmallRange, Proper}
@@ -92,10 +93,10 @@ module _ (f : compiled.Formula) (F : Formula) (is : Compiled f F) where
   spanned-of h = record { few = h; shows = shows-of; lows = is .vertices .lo; highs = is .vertices .hi }
 
   module _ (proper : Proper F) where
-    pub count-few : f .program .count ≤ 320
+    pub count-few : f .program .count ≤ mostInstructions
     count-few = omega (arith, is .program .count, proper .short)
 
-    pub places-few : f .program .places ≤ 120
+    pub places-few : f .program .places ≤ mostPlaces
     places-few = omega (arith, is .program .places, proper .few-places)
 
     pub places-of : Places ls rs ms

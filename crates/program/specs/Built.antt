@@ -1,12 +1,15 @@
 -- What a compiled program means, and what a step that builds it adds.
 use Prim.Native.Nat.{ℕ, _+_, _≤_}
 use mathlib.Core.Path.{_≡_}
-use mathlib.Core.List.{_++_, map}
+use mathlib.Core.List.{List, _++_, map}
 use lib.ListN.{length, take}
-use lib.IntN.{pos, negℤ}
+use lib.IntN.{ℤ, pos, negℤ}
 use lib.Signed.{_≤ℤ_}
+use Rattle.page_meaning.specs.Limits.{mostDecisions}
 use Rattle.page_formulas.specs.Program as P
+use Rattle.page_formulas.specs.Costs as Costs
 use Rattle.program.specs.declared.types.Program.{Program}
+use Rattle.program.specs.declared.types.End.{End}
 use Rattle.program.specs.declared.types.Joint.{Joint}
 use Rattle.program.specs.declared.types.Joint.the-variants.{And, Or, Not, True, False}
 use Rattle.program.specs.declared.types.Term.{Term}
@@ -22,15 +25,27 @@ instrOf False = P.falseI
 abbrev pub termOf : Term → P.Term
 termOf t = record { vertex = t .vertex; offset = t .offset }
 
--- how many instructions and places a compiled program has room for
+-- how many instructions and places a compiled program has room for: those of the longest formula, and a few instructions to spare
 abbrev pub mostInstructions : ℕ
-mostInstructions = 320
+mostInstructions = Costs.mostInstructions + 5
 
 abbrev pub mostPlaces : ℕ
-mostPlaces = 120
+mostPlaces = mostDecisions
+
+-- the program in four lent arrays, as far as it is written
+abbrev pub programOf : List ℕ → List ℕ → List ℕ → List ℤ → End → Program
+programOf kinds left right most e = record { kinds = kinds; count = e .count; left = left; right = right; most = most; places = e .places }
+
+-- its arrays are as long as declared
+pub record Long (p : Program) : Type 0 where
+  pub kinds : length (p .kinds) ≡ mostInstructions
+  pub left : length (p .left) ≡ mostPlaces
+  pub right : length (p .right) ≡ mostPlaces
+  pub most : length (p .most) ≡ mostPlaces
 
 -- so many instructions and places more fit
 pub record Room (p : Program) (n m : ℕ) : Type 0 where
+  pub long : Long p
   pub instructions : p .count + n ≤ mostInstructions
   pub places : p .places + m ≤ mostPlaces
 
@@ -45,6 +60,7 @@ pub record Emits (p r : Program) (x : P.Program) : Type 0 where
 
 -- r is p with x after it, which is so many instructions and places at most
 pub record Builds (p r : Program) (n m : ℕ) (x : P.Program) : Type 0 where
+  pub long : Long r
   pub emits : Emits p r x
   pub few : r .count ≤ p .count + n
   pub fewPlaces : r .places ≤ p .places + m

@@ -18,6 +18,7 @@ use Rattle.program.specs.Built.{Means}
 use Rattle.program.specs.Lent.{Shows}
 use Rattle.program.specs.declared.types.Vertices.{Vertices}
 use Rattle.program.specs.declared.types.Formula as compiled
+use Rattle.program.specs.declared.types.Outline.{Outline}
 
 -- vertex numbers up to the last range's; the flags say which are there; a vertex that is there has its range
 pub record Spans (v : Vertices) (rs : Ranges) : Type 0 where
@@ -34,6 +35,11 @@ pub record Compiled (f : compiled.Formula) (F : Formula) : Type 0 where
   pub program : Means (f .program) (F .program)
   pub pairs : f .pairs ≡ F .pairs
   pub vertices : Spans (f .vertices) (F .ranges)
+
+-- the formula in four lent arrays
+abbrev pub formulaOf : List ℕ → List ℕ → List ℕ → List ℤ → Outline → compiled.Formula
+formulaOf kinds left right most o =
+    record { program = record { kinds = kinds; count = o .count; left = left; right = right; most = most; places = o .places }; pairs = o .pairs; vertices = o .vertices }
 
 -- it is that of some proper formula: so it fits, and every sum is exact
 pub record Fine (f : compiled.Formula) : Type 0 where

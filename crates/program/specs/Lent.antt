@@ -12,6 +12,7 @@ use Rattle.page_formulas.specs.Program.{Program, Place, places}
 use Rattle.page_formulas.specs.Kinds.{kindsOf}
 use Rattle.page_formulas.specs.Formulas.{Formula}
 use Rattle.page_formulas.specs.Vertices.{Ranges, present}
+use Rattle.program.specs.Built.{mostInstructions}
 
 -- the code's flags say which vertices the formula has
 pub record Shows (shown : List Bool) (rs : Ranges) : Type 0 where
@@ -28,7 +29,7 @@ pub record Places (left right : List ℕ) (most : List ℤ) : Type 0 where
 
 -- and of all of it
 pub record Lendable (kinds left right : List ℕ) (most : List ℤ) (shown : List Bool) : Type 0 where
-  pub short : length kinds ≤ 320
+  pub short : length kinds ≤ mostInstructions
   pub places : Places left right most
   pub flags : length shown ≤ mostVertices
 

@@ -1,6 +1,8 @@
-// A program is built by value: each step gives it back with what it adds after it.
+// A program is written into four arrays that the caller lends: each step takes where it ends, and gives back where it ends then.
+use crate::types::End;
+use crate::types::INSTRUCTIONS;
 use crate::types::Joint;
-use crate::types::Program;
+use crate::types::PLACES;
 use crate::types::Term;
 use ints::weights::difference;
 use ints::weights::sum;
@@ -12,20 +14,7 @@ ghost use Rattle.page_formulas.specs.Program.{place};
 ghost use Rattle.page_formulas.specs.Compile.{atMostPlace, belowPlace, comparison};
 ghost use Rattle.page_meaning.specs.Condition.{equal};
 ghost use Rattle.question.specs.Held.{opOf};
-ghost use Rattle.program.specs.Built.{instrOf, termOf, Room, Builds, Near, Means};
-
-pub fn blank() -> Program
-    ensures { λ r. ⌜ Means r [] ⌝ }
-{
-    Program {
-        kinds: [0; 320],
-        count: 0,
-        left: [0; 120],
-        right: [0; 120],
-        most: [0; 120],
-        places: 0,
-    }
-}
+ghost use Rattle.program.specs.Built.{instrOf, termOf, programOf, Room, Builds, Near};
 
 pub fn kind(j: Joint) -> u8
     ensures { λ r. ⌜ r ≡ kindOf (instrOf j) ⌝ }
@@ -39,73 +28,124 @@ pub fn kind(j: Joint) -> u8
     }
 }
 
-pub fn emit(p: Program, j: Joint) -> Program
-    requires { ⌜ Room p 1 0 ⌝ }
-    ensures { λ r. ⌜ Builds p r 1 0 (instrOf j ∷ []) ⌝ }
+pub fn emit(
+    kinds: &mut [u8; INSTRUCTIONS],
+    left: &mut [u8; PLACES],
+    right: &mut [u8; PLACES],
+    most: &mut [i64; PLACES],
+    at: End,
+    j: Joint,
+) -> End
+    requires { ⌜ Room (programOf (now kinds) (now left) (now right) (now most) at) 1 0 ⌝ }
+    ensures { λ r. ⌜ Builds (programOf (now (kinds .entry)) (now (left .entry)) (now (right .entry)) (now (most .entry)) at) (programOf (now (kinds .exit)) (now (left .exit)) (now (right .exit)) (now (most .exit)) r) 1 0 (instrOf j ∷ []) ⌝ }
 {
-    let at = p.count;
-    let mut next = p;
-    next.kinds[at] = kind(j);
-    next.count = at + 1;
-    next
+    let n = at.count;
+    kinds[n] = kind(j);
+    End {
+        count: n + 1,
+        places: at.places,
+    }
 }
 
-pub fn emit_place(p: Program, left: u8, right: u8, most: i64) -> Program
-    requires { ⌜ Room p 1 1 ⌝ }
-    ensures { λ r. ⌜ Builds p r 1 1 (place (record { left = left; right = right; most = most }) ∷ []) ⌝ }
+pub fn emit_place(
+    kinds: &mut [u8; INSTRUCTIONS],
+    left: &mut [u8; PLACES],
+    right: &mut [u8; PLACES],
+    most: &mut [i64; PLACES],
+    at: End,
+    a: u8,
+    b: u8,
+    k: i64,
+) -> End
+    requires { ⌜ Room (programOf (now kinds) (now left) (now right) (now most) at) 1 1 ⌝ }
+    ensures { λ r. ⌜ Builds (programOf (now (kinds .entry)) (now (left .entry)) (now (right .entry)) (now (most .entry)) at) (programOf (now (kinds .exit)) (now (left .exit)) (now (right .exit)) (now (most .exit)) r) 1 1 (place (record { left = a; right = b; most = k }) ∷ []) ⌝ }
 {
-    let at = p.count;
-    let to = p.places;
-    let mut next = p;
-    next.kinds[at] = 0;
-    next.count = at + 1;
-    next.left[to] = left;
-    next.right[to] = right;
-    next.most[to] = most;
-    next.places = to + 1;
-    next
+    let n = at.count;
+    let m = at.places;
+    kinds[n] = 0;
+    left[m] = a;
+    right[m] = b;
+    most[m] = k;
+    End {
+        count: n + 1,
+        places: m + 1,
+    }
 }
 
 // l ≤ r
-pub fn at_most(p: Program, l: Term, r: Term) -> Program
-    requires { ⌜ Room p 1 1 × Near l × Near r ⌝ }
-    ensures { λ next. ⌜ Builds p next 1 1 (place (atMostPlace (termOf l) (termOf r)) ∷ []) ⌝ }
+pub fn at_most(
+    kinds: &mut [u8; INSTRUCTIONS],
+    left: &mut [u8; PLACES],
+    right: &mut [u8; PLACES],
+    most: &mut [i64; PLACES],
+    at: End,
+    l: Term,
+    r: Term,
+) -> End
+    requires { ⌜ Room (programOf (now kinds) (now left) (now right) (now most) at) 1 1 × Near l × Near r ⌝ }
+    ensures { λ next. ⌜ Builds (programOf (now (kinds .entry)) (now (left .entry)) (now (right .entry)) (now (most .entry)) at) (programOf (now (kinds .exit)) (now (left .exit)) (now (right .exit)) (now (most .exit)) next) 1 1 (place (atMostPlace (termOf l) (termOf r)) ∷ []) ⌝ }
 {
-    emit_place(p, l.vertex, r.vertex, difference(r.offset, l.offset))
+    let k = difference(r.offset, l.offset);
+    emit_place(kinds, left, right, most, at, l.vertex, r.vertex, k)
 }
 
 // l < r
-pub fn below(p: Program, l: Term, r: Term) -> Program
-    requires { ⌜ Room p 1 1 × Near l × Near r ⌝ }
-    ensures { λ next. ⌜ Builds p next 1 1 (place (belowPlace (termOf l) (termOf r)) ∷ []) ⌝ }
+pub fn below(
+    kinds: &mut [u8; INSTRUCTIONS],
+    left: &mut [u8; PLACES],
+    right: &mut [u8; PLACES],
+    most: &mut [i64; PLACES],
+    at: End,
+    l: Term,
+    r: Term,
+) -> End
+    requires { ⌜ Room (programOf (now kinds) (now left) (now right) (now most) at) 1 1 × Near l × Near r ⌝ }
+    ensures { λ next. ⌜ Builds (programOf (now (kinds .entry)) (now (left .entry)) (now (right .entry)) (now (most .entry)) at) (programOf (now (kinds .exit)) (now (left .exit)) (now (right .exit)) (now (most .exit)) next) 1 1 (place (belowPlace (termOf l) (termOf r)) ∷ []) ⌝ }
 {
     let k = difference(r.offset, l.offset);
-    emit_place(p, l.vertex, r.vertex, sum(k, -1))
+    emit_place(kinds, left, right, most, at, l.vertex, r.vertex, sum(k, -1))
 }
 
 // l ≤ r and r ≤ l
-pub fn same(p: Program, l: Term, r: Term) -> Program
-    requires { ⌜ Room p 3 2 × Near l × Near r ⌝ }
-    ensures { λ next. ⌜ Builds p next 3 2 (comparison equal (termOf l) (termOf r)) ⌝ }
+pub fn same(
+    kinds: &mut [u8; INSTRUCTIONS],
+    left: &mut [u8; PLACES],
+    right: &mut [u8; PLACES],
+    most: &mut [i64; PLACES],
+    at: End,
+    l: Term,
+    r: Term,
+) -> End
+    requires { ⌜ Room (programOf (now kinds) (now left) (now right) (now most) at) 3 2 × Near l × Near r ⌝ }
+    ensures { λ next. ⌜ Builds (programOf (now (kinds .entry)) (now (left .entry)) (now (right .entry)) (now (most .entry)) at) (programOf (now (kinds .exit)) (now (left .exit)) (now (right .exit)) (now (most .exit)) next) 3 2 (comparison equal (termOf l) (termOf r)) ⌝ }
 {
-    let one = at_most(p, l, r);
-    let two = at_most(one, r, l);
-    emit(two, Joint::And)
+    let one = at_most(kinds, left, right, most, at, l, r);
+    let two = at_most(kinds, left, right, most, one, r, l);
+    emit(kinds, left, right, most, two, Joint::And)
 }
 
-pub fn compare(p: Program, op: Op, l: Term, r: Term) -> Program
-    requires { ⌜ Room p 4 2 × Near l × Near r ⌝ }
-    ensures { λ next. ⌜ Builds p next 4 2 (comparison (opOf op) (termOf l) (termOf r)) ⌝ }
+pub fn compare(
+    kinds: &mut [u8; INSTRUCTIONS],
+    left: &mut [u8; PLACES],
+    right: &mut [u8; PLACES],
+    most: &mut [i64; PLACES],
+    at: End,
+    op: Op,
+    l: Term,
+    r: Term,
+) -> End
+    requires { ⌜ Room (programOf (now kinds) (now left) (now right) (now most) at) 4 2 × Near l × Near r ⌝ }
+    ensures { λ next. ⌜ Builds (programOf (now (kinds .entry)) (now (left .entry)) (now (right .entry)) (now (most .entry)) at) (programOf (now (kinds .exit)) (now (left .exit)) (now (right .exit)) (now (most .exit)) next) 4 2 (comparison (opOf op) (termOf l) (termOf r)) ⌝ }
 {
     match op {
-        Op::Less => below(p, l, r),
-        Op::AtMost => at_most(p, l, r),
-        Op::Equal => same(p, l, r),
-        Op::AtLeast => at_most(p, r, l),
-        Op::More => below(p, r, l),
+        Op::Less => below(kinds, left, right, most, at, l, r),
+        Op::AtMost => at_most(kinds, left, right, most, at, l, r),
+        Op::Equal => same(kinds, left, right, most, at, l, r),
+        Op::AtLeast => at_most(kinds, left, right, most, at, r, l),
+        Op::More => below(kinds, left, right, most, at, r, l),
         Op::Unequal => {
-            let both = same(p, l, r);
-            emit(both, Joint::Not)
+            let both = same(kinds, left, right, most, at, l, r);
+            emit(kinds, left, right, most, both, Joint::Not)
         }
     }
 }

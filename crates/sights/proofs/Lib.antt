@@ -1,5 +1,7 @@
 pub mod Shapes
 pub mod Sightings
-pub mod Stepwise
-pub mod Ranging
-pub mod VertexLaws
+pub mod Pieces
+pub mod Tokens
+pub mod Tests
+pub mod Contrasts
+pub mod Rows

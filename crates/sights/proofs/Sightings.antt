@@ -1,6 +1,6 @@
 -- What the code finds for a column is what the sight says: its vertex, its mode, its term.
-use mathlib.Core.Path.{_≡_, refl, sym, ap, _∙_}
-use mathlib.Core.Bool.{Bool, true, false, cond}
+use mathlib.Core.Path.{_≡_, refl, sym, ap, ap₂, _∙_}
+use mathlib.Core.Bool.{Bool, true, false}
 use mathlib.Core.List.{List, [], _∷_, _++_, map}
 use Prim.Native.Nat.{ℕ, zero, suc, _+_, _-_, _≤_, _<_}
 use native.Mathlib.Numerals.{add-one}
@@ -12,9 +12,7 @@ use mir.Syntax.{w32, w64}
 use mir.Val.{SFits}
 use Rattle.page_numbers.proofs.Bridge.{ints, +law}
 use Rattle.page_numbers.proofs.Machine.{machine}
-use Rattle.page_meaning.specs.Contents.{Mode, keep, become, shift, columns, first}
-use Rattle.page_meaning.specs.Contents as M
-use Rattle.page_meaning.specs.Claims.{modeAt}
+use Rattle.page_meaning.specs.Contents.{Mode, keep, become, shift}
 use Rattle.page_meaning.specs.WellFormed.{Reads}
 use Rattle.question.specs.Held.{settingOf, questionOf}
 use Rattle.question.specs.declared.types.Question.{Question}
@@ -22,24 +20,32 @@ use Rattle.question.specs.declared.types.Mode.the-variants.{Keep}
 use Rattle.question.specs.declared.types.Setting.{Setting}
 use Rattle.page_formulas.specs.Program as P
 use Rattle.page_formulas.specs.Compile.{constantTerm, plus}
-use Rattle.page_formulas.specs.Formulas.{vertex, newTerm, after}
+use Rattle.page_formulas.specs.Formulas.{vertex}
 use Rattle.program.specs.Built.{termOf, Near}
-use Rattle.sights.specs.Seen.{noColumn, stillOf, rowSight, modesOf, modeIn, sightOf, There, Whole, Usable, Stands, ModeReads}
-use Rattle.program.specs.declared.types.Sight.{Sight}
+use Rattle.sights.specs.Seen.{noColumn, rowSight, vertexOf, flagsOf, rowOf, modesOf, modeIn, sightOf, There, Whole, Has, Usable, Stands, ModeReads}
+use Rattle.sights.specs.declared.types.Sight.{Sight}
 use Rattle.program.specs.declared.types.Term.{Term}
-use Rattle.sights.proofs.Shapes.{visible-is, columns-length, first-is}
+use Rattle.sights.proofs.Shapes.{visible-is, columns-length}
 
 -- ---- vertices
 
-pub first-vertex : (q : M.Question) (second : Bool) (i : ℕ) → second ≡ false → i + 1 ≡ rowSight q second i .vertex
-first-vertex q second i e = rw e (add-one i)
+-- a flag below the number of columns
+pub flag-at : (s : Sight) (i : ℕ) → Has s i → getD (s .visible) i false ≡ getD (flagsOf s) i false
+flag-at s i h = sym (getD-take (s .total) (s .visible) i false h)
 
-module _ (q : Question) (second : Bool) (i : ℕ) (there : There q i) (e : second ≡ true) where
-  pub shown-vertex : getD (q .columns) i noColumn .visible ≡ true → i + 1 ≡ rowSight (questionOf q) second i .vertex
-  shown-vertex v = rw (e, visible-is q i there, v) (add-one i)
+pub vertex-first : (second visible : Bool) (n i : ℕ) → second ≡ false → i + 1 ≡ vertexOf second visible n i
+vertex-first second visible n i e = rw e (add-one i)
 
-  pub hidden-vertex : Whole q → getD (q .columns) i noColumn .visible ≡ false → q .shape .total + i + 1 ≡ rowSight (questionOf q) second i .vertex
-  hidden-vertex w v = rw (e, visible-is q i there, v) (omega (arith, columns-length q w))
+pub vertex-shown : (second visible : Bool) (n i : ℕ) → second ≡ true → visible ≡ true → i + 1 ≡ vertexOf second visible n i
+vertex-shown second visible n i e v = rw (e, v) (add-one i)
+
+pub vertex-hidden : (second visible : Bool) (n i : ℕ) → second ≡ true → visible ≡ false → n + i + 1 ≡ vertexOf second visible n i
+vertex-hidden second visible n i e v = rw (e, v) (add-one (n + i))
+
+-- a question's column has the vertex of its row
+pub row-vertex : (q : Question) (w : Whole q) (second : Bool) (i : ℕ) → There q i → vertexOf second (getD (q .columns) i noColumn .visible) (q .shape .total) i ≡ rowSight (questionOf q) second i .vertex
+row-vertex q w true i h = ap₂ (λ b n. vertexOf true b n i) (sym (visible-is q i h)) (sym (columns-length q w))
+row-vertex q w false i h = refl
 
 -- ---- modes
 
@@ -70,30 +76,26 @@ reads-at P (keep ∷ ms) (suc j) r = reads-at P ms j r
 reads-at P (become k ∷ ms) (suc j) r = reads-at P ms j r
 reads-at P (shift o k ∷ ms) (suc j) r = reads-at P ms j (r .1)
 
-module _ (q : Question) (s : Sight) (i : ℕ) (u : Usable q s) (e : s .moved ≡ true) where
-  pub mode-before : i < q .shape .first → keep ≡ modeIn q s i
-  mode-before h = rw (e, first-is q (u .whole)) (sym (before (q .shape .first) (modesOf q s) i h))
+module _ (s : Sight) (i : ℕ) (e : s .moved ≡ true) where
+  pub mode-before : i < s .first → keep ≡ modeIn s i
+  mode-before h = rw e (sym (before (s .first) (modesOf s) i h))
 
-  pub mode-past : q .shape .first ≤ i → q .shape .width ≤ i - q .shape .first → keep ≡ modeIn q s i
-  mode-past h g = rw (e, first-is q (u .whole)) (sym (from (q .shape .first) (modesOf q s) i h ∙ mode-unlisted (s .settings) (q .shape .width) (i - q .shape .first) g))
+  pub mode-past : s .first ≤ i → s .modes ≤ i - s .first → keep ≡ modeIn s i
+  mode-past h g = rw e (sym (from (s .first) (modesOf s) i h ∙ mode-unlisted (s .settings) (s .modes) (i - s .first) g))
 
-  pub mode-inside : q .shape .first ≤ i → i - q .shape .first < q .shape .width → settingOf (getD (s .settings) (i - q .shape .first) noSetting) ≡ modeIn q s i
-  mode-inside h g = rw (e, first-is q (u .whole)) (mode-listed (s .settings) (q .shape .width) (i - q .shape .first) g ∙ sym (from (q .shape .first) (modesOf q s) i h))
+  pub mode-inside : s .first ≤ i → i - s .first < s .modes → settingOf (getD (s .settings) (i - s .first) noSetting) ≡ modeIn s i
+  mode-inside h g = rw e (mode-listed (s .settings) (s .modes) (i - s .first) g ∙ sym (from (s .first) (modesOf s) i h))
 
   -- the changed table's column j
-  pub mode-from : (j : ℕ) → i ≡ q .shape .first + j → modeIn q s i ≡ getD (modesOf q s) j keep
-  mode-from j h = rw (e, first-is q (u .whole)) (from (q .shape .first) (modesOf q s) i (omega arith) ∙ ap (λ k. getD (modesOf q s) k keep) (omega arith))
+  pub mode-from : (j : ℕ) → i ≡ s .first + j → modeIn s i ≡ getD (modesOf s) j keep
+  mode-from j h = rw e (from (s .first) (modesOf s) i (omega arith) ∙ ap (λ k. getD (modesOf s) k keep) (omega arith))
 
-  pub mode-reads : i - q .shape .first < q .shape .width → ModeReads (There q) (settingOf (getD (s .settings) (i - q .shape .first) noSetting))
-  mode-reads g =
-      rw (mode-listed (s .settings) (q .shape .width) (i - q .shape .first) g)
-      (reads-at (There q) (modesOf q s) (i - q .shape .first) (rw e at (u .reads)))
+  pub mode-reads : Usable s → i - s .first < s .modes → ModeReads (Has s) (settingOf (getD (s .settings) (i - s .first) noSetting))
+  mode-reads u g =
+      rw (mode-listed (s .settings) (s .modes) (i - s .first) g)
+      (reads-at (Has s) (modesOf s) (i - s .first) (rw e at (u .reads)))
 
 -- ---- terms
-
-row-term : (q : M.Question) (second : Bool) (i : ℕ) → rowSight q second i ≡ vertex (rowSight q second i .vertex)
-row-term q true i = refl
-row-term q false i = refl
 
 none-more : (k : ℤ) → pos 0 +ℤ k ≡ k
 none-more k = omega (ints, +law (pos 0) k)
@@ -101,17 +103,17 @@ none-more k = omega (ints, +law (pos 0) k)
 pub stands-constant : (k : ℤ) → SFits w32 k → Stands (record { vertex = 0; offset = k }) (constantTerm k)
 stands-constant k f = record { is = refl; low = omega (arith, machine); high = omega (arith, machine) }
 
-module _ (q : Question) (s : Sight) (i : ℕ) where
-  pub stands-keep : (v : ℕ) → modeIn q s i ≡ keep → v ≡ rowSight (questionOf q) (s .second) i .vertex → Stands (record { vertex = v; offset = pos 0 }) (sightOf q s i)
-  stands-keep v m e = record { is = rw m (ap vertex e ∙ sym (row-term (questionOf q) (s .second) i)); low = omega (arith, machine); high = omega (arith, machine) }
+module _ (s : Sight) (i : ℕ) where
+  pub stands-keep : (v : ℕ) → modeIn s i ≡ keep → v ≡ rowOf s i .vertex → Stands (record { vertex = v; offset = pos 0 }) (sightOf s i)
+  stands-keep v m e = record { is = rw m (ap vertex e); low = omega (arith, machine); high = omega (arith, machine) }
 
-  pub stands-become : (k : ℤ) → modeIn q s i ≡ become k → SFits w32 k → Stands (record { vertex = 0; offset = k }) (sightOf q s i)
+  pub stands-become : (k : ℤ) → modeIn s i ≡ become k → SFits w32 k → Stands (record { vertex = 0; offset = k }) (sightOf s i)
   stands-become k m f = record { is = rw m refl; low = omega (arith, machine); high = omega (arith, machine) }
 
-  pub stands-shift : (v j : ℕ) (k : ℤ) → modeIn q s i ≡ shift j k → v ≡ rowSight (questionOf q) (s .second) j .vertex → SFits w32 k → Stands (record { vertex = v; offset = k }) (sightOf q s i)
+  pub stands-shift : (v j : ℕ) (k : ℤ) → modeIn s i ≡ shift j k → v ≡ rowOf s j .vertex → SFits w32 k → Stands (record { vertex = v; offset = k }) (sightOf s i)
   stands-shift v j k m e f =
       record {
-        is = rw m (ap (λ v. record { vertex = v; offset = k }) e ∙ ap (λ o. record { vertex = rowSight (questionOf q) (s .second) j .vertex; offset = o }) (sym (none-more k)) ∙ ap (λ t. plus t k) (sym (row-term (questionOf q) (s .second) j)));
+        is = rw m (ap (λ v. record { vertex = v; offset = k }) e ∙ ap (λ o. record { vertex = rowOf s j .vertex; offset = o }) (sym (none-more k)));
         low = omega (arith, machine);
         high = omega (arith, machine);
       }
@@ -136,14 +138,3 @@ stands-fits t u s = omega (arith, machine, s .low, s .high)
 
 pub stands-near : {t : Term} {u : P.Term} → Stands t u → Near t
 stands-near s = record { low = omega (arith, machine, s .low, s .high); high = omega (arith, machine, s .low, s .high) }
-
--- ---- sights that move and those that do not
-
-pub sight-moved : (q : Question) (s : Sight) → s .moved ≡ true → sightOf q s ≡ after (questionOf q) (modesOf q s) (rowSight (questionOf q) (s .second))
-unfolding after
-sight-moved q s e =
-    let σ = rowSight (questionOf q) (s .second) in
-    ap (λ t i. newTerm (cond t (modeAt (questionOf q) (modesOf q s) i) keep) σ (σ i)) e
-
-pub usable-still : {q : Question} {s : Sight} → Usable q s → Usable q (stillOf s)
-usable-still u = record { whole = u .whole; long = u .long; reads = tt }

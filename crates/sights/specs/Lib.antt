@@ -1,2 +1,3 @@
 pub mod Seen
 pub mod Partway
+pub mod Rows

@@ -6,7 +6,7 @@ use program::types::VERTICES;
 use question::types::Question;
 use room::Spot;
 use room::put;
-use sights::seeing::vertex_at;
+use sights::terms::vertex_at;
 ghost use Prim.Native.Nat.{_<_};
 ghost use mathlib.Core.Path.{_≡_};
 ghost use mir.Syntax.{w32};

@@ -14,9 +14,9 @@ emit-place-requires c κs = search needs
 
 returns : tie.Need-returns
 returns c =
-    let at = c .before .before .before .before in
+    let at = c .before .before .before .before .before .before .before .before in
     let f = near-difference (at .pre .2) (at .pre .1) in
-    simp (toZ-ofZ, near-fits (at .pre .1), near-fits (at .pre .2), f, c .before .difference .ensures) at (c .emit-place .ensures)
+    simp (toZ-ofZ, near-fits (at .pre .1), near-fits (at .pre .2), f, c .before .before .before .before .before .difference .ensures) at (c .emit-place .ensures)
 
 pub at-most-spec : {M : Type 1} → statement M
 at-most-spec = tie.close (tie.spec difference-requires emit-place-requires returns)

@@ -1,5 +1,5 @@
 use native.Mathlib.Omega.{arith}
-use Rattle.program.proofs.Weights.{more, within}
+use Rattle.program.proofs.Weights.{more, within, room-less}
 use borrow.Author.Needs.{needs}
 use Rattle.program.proofs.build.compare.Statement.{statement}
 use Rattle.program.proofs.build.compare.Tie as tie
@@ -38,28 +38,28 @@ enum-told-6 : tie.Need-enum-told-6
 enum-told-6 c = search needs
 
 same-requires-2 : tie.Need-same-requires-2
-same-requires-2 c κs = search needs
+same-requires-2 c κs = let at = c .before .before .before .before .before .before in (room-less (at .pre .0) (omega arith) (omega arith), at .pre .1, at .pre .2)
 
 emit-requires : tie.Need-emit-requires
 emit-requires c κs = search needs
 
 returns : tie.Need-returns
-returns c = rw (c .before .enum-told .given .1) (within (omega arith) (omega arith) (c .below .ensures))
+returns c = rw (c .before .before .before .before .before .enum-told .given .1) (within (omega arith) (omega arith) (c .below .ensures))
 
 returns-2 : tie.Need-returns-2
-returns-2 c = rw (c .before .enum-told2 .given .1) (within (omega arith) (omega arith) (c .at-most .ensures))
+returns-2 c = rw (c .before .before .before .before .before .enum-told2 .given .1) (within (omega arith) (omega arith) (c .at-most .ensures))
 
 returns-3 : tie.Need-returns-3
-returns-3 c = rw (c .before .enum-told3 .given .1) (within (omega arith) (omega arith) (c .same .ensures))
+returns-3 c = rw (c .before .before .before .before .before .enum-told3 .given .1) (within (omega arith) (omega arith) (c .same .ensures))
 
 returns-4 : tie.Need-returns-4
-returns-4 c = rw (c .before .enum-told4 .given .1) (within (omega arith) (omega arith) (c .at-most2 .ensures))
+returns-4 c = rw (c .before .before .before .before .before .enum-told4 .given .1) (within (omega arith) (omega arith) (c .at-most2 .ensures))
 
 returns-5 : tie.Need-returns-5
-returns-5 c = rw (c .before .enum-told5 .given .1) (within (omega arith) (omega arith) (c .below2 .ensures))
+returns-5 c = rw (c .before .before .before .before .before .enum-told5 .given .1) (within (omega arith) (omega arith) (c .below2 .ensures))
 
 returns-6 : tie.Need-returns-6
-returns-6 c = rw (c .before .before .enum-told6 .given .1) (more (c .before .same2 .ensures) (c .emit .ensures))
+returns-6 c = rw (c .before .before .before .before .before .before .before .before .before .before .enum-told6 .given .1) (more (c .before .before .before .before .before .same2 .ensures) (c .emit .ensures))
 
 pub compare-spec : {M : Type 1} → statement M
 compare-spec =

@@ -1,62 +1,46 @@
-use mathlib.Core.Path.{refl, ap, _∙_}
-use mathlib.Core.List.{[], _∷_, _++_}
-use lib.ListN.{take}
+use denote.Ref.{now}
 use mir.Facts.{toZ-ofZ}
-use Rattle.page_formulas.specs.Kinds.{kindsOf}
-use Rattle.page_formulas.specs.Program as P
-use Rattle.program.proofs.Emits.{push}
+use Rattle.program.specs.Built.{programOf}
+use Rattle.program.proofs.Emits.{emit-place}
 use borrow.Author.Needs.{needs}
 use Rattle.program.proofs.build.emit_place.Statement.{statement}
 use Rattle.program.proofs.build.emit_place.Tie as tie
 
-element-write-next : tie.Need-element-write-next
-element-write-next c = search needs
+element-write-kinds : tie.Need-element-write-kinds
+element-write-kinds c = search needs
 
-add-next : tie.Need-add-next
-add-next c = search needs
+element-write-left : tie.Need-element-write-left
+element-write-left c = search needs
 
-element-write-next-2 : tie.Need-element-write-next-2
-element-write-next-2 c = search needs
+element-write-right : tie.Need-element-write-right
+element-write-right c = search needs
 
-element-write-next-3 : tie.Need-element-write-next-3
-element-write-next-3 c = search needs
+mul-k : tie.Need-mul-k
+mul-k c = search needs
 
-mul-most : tie.Need-mul-most
-mul-most c = search needs
+element-set-from-k : tie.Need-element-set-from-k
+element-set-from-k c = search needs
 
-element-set-from-most : tie.Need-element-set-from-most
-element-set-from-most c = search needs
+add-t17 : tie.Need-add-t17
+add-t17 c = search needs
 
-add-next-2 : tie.Need-add-next-2
-add-next-2 c = search needs
+add-t20 : tie.Need-add-t20
+add-t20 c = search needs
 
 returns : tie.Need-returns
-unfolding kindsOf P.places
 returns c =
-    let p = c .args .p in
-    record {
-      emits =
-          record {
-            kinds = push 320 (p .kinds) (p .count) 0 (search needs) (search needs);
-            left = push 120 (p .left) (p .places) (c .args .left) (search needs) (search needs);
-            right = push 120 (p .right) (p .places) (c .args .right) (search needs) (search needs);
-            most = push 120 (p .most) (p .places) _ (search needs) (search needs) ∙ ap (λ k. take (p .places) (p .most) ++ (k ∷ [])) (toZ-ofZ (c .fits .most));
-            count = refl;
-            places = refl;
-          };
-      few = search needs;
-      fewPlaces = search needs;
-    }
+    let a = c .args in
+    rw (toZ-ofZ (c .fits .k)) (emit-place (programOf (now (a .kinds)) (now (a .left)) (now (a .right)) (now (a .most)) (a .at)) (a .a) (a .b) (a .k) (c .pre))
 
 pub emit-place-spec : {M : Type 1} → statement M
 emit-place-spec =
     tie.close
     (tie.spec
-    element-write-next
-    add-next
-    element-write-next-2
-    element-write-next-3
-    mul-most
-    element-set-from-most
-    add-next-2
+    element-write-kinds
+    element-write-left
+    element-write-right
+    mul-k
+    element-set-from-k
+    add-t17
+    add-t20
     returns)

@@ -13,7 +13,7 @@ emit-requires : tie.Need-emit-requires
 emit-requires c κs = search needs
 
 returns : tie.Need-returns
-returns c = more (more (c .before .before .at-most .ensures) (c .before .at-most2 .ensures)) (c .emit .ensures)
+returns c = more (more (c .before .before .before .before .before .before .before .before .before .before .at-most .ensures) (c .before .before .before .before .before .at-most2 .ensures)) (c .emit .ensures)
 
 pub same-spec : {M : Type 1} → statement M
 same-spec = tie.close (tie.spec at-most-requires at-most-requires-2 emit-requires returns)
