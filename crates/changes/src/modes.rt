@@ -10,7 +10,7 @@ use fields::fields::Byte;
 use fields::fields::Number;
 use fields::fields::byte_at;
 use fields::fields::number_at;
-use question::limits::COLUMNS;
+use limits::COLUMNS;
 use question::types::Answer;
 use question::types::Mode;
 use question::types::Setting;

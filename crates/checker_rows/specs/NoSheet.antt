@@ -7,6 +7,7 @@ use lib.ListN.{length, getD}
 use lib.IntN.{ℤ, pos, _+ℤ_}
 use lib.Dec.{ltb}
 use lib.Signed.{leZ}
+use Rattle.page_meaning.specs.Limits.{mostDecisions}
 use Rattle.page_walks.specs.Sizes.{Bounded}
 use Rattle.truth.specs.Cells.{bit}
 use Rattle.checker_rows.specs.declared.fields.Reading.{Reading}
@@ -49,4 +50,4 @@ testAt x ls rs ms i = leZ (getD x (getD ls i 0) (pos 0)) (getD x (getD rs i 0) (
 -- every place's truth
 pub record Tested (x : List ℤ) (ls rs : List ℕ) (ms : List ℤ) (truths : List ℕ) : Type 0 where
   pub each : (i : ℕ) → i < length ls → bit (getD truths i 0) ≡ testAt x ls rs ms i
-  pub long : length truths ≡ 120
+  pub long : length truths ≡ mostDecisions

@@ -1,13 +1,17 @@
 // Whether a compiled formula is true at the values of a no sheet.
 use crate::values::met;
 use crate::values::values;
+use limits::INSTRUCTIONS;
+use limits::PLACES;
+use limits::VERTICES;
 use program::types::Formula;
+ghost use Rattle.page_formulas.specs.Costs.{mostInstructions};
 ghost use mathlib.Core.Path.{_≡_};
 ghost use Prim.Native.Nat.{ℕ, _≤_, _<_};
 ghost use lib.ListN.{length, getD, take};
 ghost use lib.IntN.{pos};
 ghost use Rattle.page_meaning.specs.Contents.{Question};
-ghost use Rattle.page_meaning.specs.Limits.{mostVertices};
+ghost use Rattle.page_meaning.specs.Limits.{mostVertices, mostDecisions};
 ghost use Rattle.page_formulas.specs.Program.{Values, truth};
 ghost use Rattle.page_formulas.specs.Formulas as spec;
 ghost use Rattle.page_sheets.specs.Rows.{fields, fieldAt, readValues};
@@ -17,15 +21,15 @@ ghost use Rattle.checker_rows.specs.NoSheet.{Small};
 
 // The used parts of its arrays are lent to the test.
 fn lent_met(
-    kinds: [u8; 320],
+    kinds: [u8; INSTRUCTIONS],
     count: usize,
-    left: [u8; 120],
-    right: [u8; 120],
-    most: [i64; 120],
+    left: [u8; PLACES],
+    right: [u8; PLACES],
+    most: [i64; PLACES],
     places: usize,
-    x: [i64; 17],
+    x: [i64; VERTICES],
 ) -> bool
-    requires { ⌜ (count ≤ 320) × (places ≤ 120) × Places (take places left) (take places right) (take places most) × Small x ⌝ }
+    requires { ⌜ (count ≤ mostInstructions) × (places ≤ mostDecisions) × Places (take places left) (take places right) (take places most) × Small x ⌝ }
     ensures { λ r. ⌜ ((F : spec.Formula) (z : Values) → Lent (F .program) (take count kinds) (take places left) (take places right) (take places most) → ((v : ℕ) → getD x v (pos 0) ≡ z v) → r ≡ truth z (F .program)) ⌝ }
 {
     let used = &kinds[..count];

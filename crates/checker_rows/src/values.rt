@@ -1,6 +1,9 @@
 // Whether a formula is true at given values of its vertices: every place is tested, and so the formula is known.
+use limits::PLACES;
+use limits::VERTICES;
 use truth::knowing::Truth;
 use truth::knowing::known;
+ghost use Rattle.page_formulas.specs.Costs.{mostInstructions};
 ghost use mathlib.Core.Path.{_≡_};
 ghost use Prim.Native.Nat.{ℕ, _+_, _*_, _≤_, _<_};
 ghost use lib.ListN.{length, getD};
@@ -16,11 +19,11 @@ ghost use Rattle.program.specs.Lent.{Lent, Places};
 ghost use Rattle.checker_rows.specs.NoSheet.{ValuesRead, Small, Tested};
 
 // 0 at vertex 0, field j at vertex 1 + j.
-pub fn values(sheet: &[u8], count: usize) -> [i64; 17]
+pub fn values(sheet: &[u8], count: usize) -> [i64; VERTICES]
     requires { ⌜ (count < mostVertices) × (fieldAt count ≤ length (now sheet)) ⌝ }
     ensures { λ r. ⌜ ValuesRead (now (sheet .entry)) count r ⌝ }
 {
-    let mut x: [i64; 17] = [0; 17];
+    let mut x: [i64; VERTICES] = [0; VERTICES];
     let mut j: usize = 0;
     while j < count {
         let z = ints::read_i32(sheet, 8 + 4 * j);
@@ -31,7 +34,7 @@ pub fn values(sheet: &[u8], count: usize) -> [i64; 17]
 }
 
 // 1 where left − right ≤ most holds at the values.
-fn place_truth(values: [i64; 17], left: u8, right: u8, most: i64) -> u8
+fn place_truth(values: [i64; VERTICES], left: u8, right: u8, most: i64) -> u8
     requires { ⌜ Small values × (left < mostVertices) × (right < mostVertices) × Bounded least-weight most ⌝ }
     ensures { λ r. ⌜ bit r ≡ leZ (getD values left (pos 0)) (getD values right (pos 0) +ℤ most) ⌝ }
 {
@@ -45,11 +48,11 @@ fn place_truth(values: [i64; 17], left: u8, right: u8, most: i64) -> u8
 }
 
 // Every place of a formula: 1 where it holds.
-fn decisions(left: &[u8], right: &[u8], most: &[i64], values: [i64; 17]) -> [u8; 120]
+fn decisions(left: &[u8], right: &[u8], most: &[i64], values: [i64; VERTICES]) -> [u8; PLACES]
     requires { ⌜ Places (now left) (now right) (now most) × Small values ⌝ }
     ensures { λ r. ⌜ Tested values (now (left .entry)) (now (right .entry)) (now (most .entry)) r ⌝ }
 {
-    let mut t: [u8; 120] = [0; 120];
+    let mut t: [u8; PLACES] = [0; PLACES];
     let mut i: usize = 0;
     while i < left.len() {
         let a = left[i];
@@ -62,8 +65,8 @@ fn decisions(left: &[u8], right: &[u8], most: &[i64], values: [i64; 17]) -> [u8;
 }
 
 // Is the formula true at the values?
-pub fn met(kinds: &[u8], left: &[u8], right: &[u8], most: &[i64], values: [i64; 17]) -> bool
-    requires { ⌜ (length (now kinds) ≤ 320) × Places (now left) (now right) (now most) × Small values ⌝ }
+pub fn met(kinds: &[u8], left: &[u8], right: &[u8], most: &[i64], values: [i64; VERTICES]) -> bool
+    requires { ⌜ (length (now kinds) ≤ mostInstructions) × Places (now left) (now right) (now most) × Small values ⌝ }
     ensures { λ r. ⌜ ((F : Formula) (x : Values) → Lent (F .program) (now (kinds .entry)) (now (left .entry)) (now (right .entry)) (now (most .entry)) → ((v : ℕ) → getD values v (pos 0) ≡ x v) → r ≡ truth x (F .program)) ⌝ }
 {
     let t = decisions(left, right, most, values);

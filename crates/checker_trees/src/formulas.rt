@@ -2,13 +2,17 @@
 use crate::nodes::Past;
 use crate::trees::tree;
 use facts::start;
+use limits::INSTRUCTIONS;
+use limits::PLACES;
+use limits::VERTICES;
 use program::types::Formula;
+ghost use Rattle.page_formulas.specs.Costs.{mostInstructions};
 ghost use mathlib.Core.Path.{_≡_};
 ghost use Prim.Native.Nat.{ℕ, _≤_};
 ghost use lib.ListN.{take, replicate};
 ghost use Rattle.page_walks.specs.Grid.{farN};
 ghost use Rattle.page_walks.specs.Sizes.{AllWithin};
-ghost use Rattle.page_meaning.specs.Limits.{mostVertices};
+ghost use Rattle.page_meaning.specs.Limits.{mostVertices, mostDecisions};
 ghost use Rattle.page_formulas.specs.Formulas as spec;
 ghost use Rattle.page_sheets.specs.Tree.{checkTree};
 ghost use Rattle.program.specs.Lent.{Shows, Lent, Places};
@@ -17,20 +21,20 @@ ghost use Rattle.checker_trees.specs.Checking.{outcomeOf, checkLeft};
 
 // The used parts of a compiled formula's arrays are lent to the tree's check: no place is decided yet.
 fn lent_tree(
-    kinds: [u8; 320],
+    kinds: [u8; INSTRUCTIONS],
     count: usize,
-    left: [u8; 120],
-    right: [u8; 120],
-    most: [i64; 120],
+    left: [u8; PLACES],
+    right: [u8; PLACES],
+    most: [i64; PLACES],
     places: usize,
-    shown: [bool; 17],
-    g: [[i64; 17]; 17],
+    shown: [bool; VERTICES],
+    g: [[i64; VERTICES]; VERTICES],
     part: &[u8],
 ) -> Past
-    requires { ⌜ (count ≤ 320) × (places ≤ 120) × Places (take places left) (take places right) (take places most) × AllWithin farN mostVertices g ⌝ }
-    ensures { λ r. ⌜ ((F : spec.Formula) (base : ℕ) → Lent (F .program) (take count kinds) (take places left) (take places right) (take places most) → Shows shown (F .ranges) → outcomeOf base (now (part .entry)) r ≡ checkLeft F places (replicate 120 0) g base (now (part .entry))) ⌝ }
+    requires { ⌜ (count ≤ mostInstructions) × (places ≤ mostDecisions) × Places (take places left) (take places right) (take places most) × AllWithin farN mostVertices g ⌝ }
+    ensures { λ r. ⌜ ((F : spec.Formula) (base : ℕ) → Lent (F .program) (take count kinds) (take places left) (take places right) (take places most) → Shows shown (F .ranges) → outcomeOf base (now (part .entry)) r ≡ checkLeft F places (replicate mostDecisions 0) g base (now (part .entry))) ⌝ }
 {
-    let truths = [0; 120];
+    let truths = [0; PLACES];
     let used = &kinds[..count];
     let a = &left[..places];
     let b = &right[..places];

@@ -1,12 +1,15 @@
 // FORMAT 8.2: the nodes of a case tree, one at a time, and what the checker says of each.
+use limits::PLACES;
+use limits::VERTICES;
 use truth::knowing::Truth;
+ghost use Rattle.page_formulas.specs.Costs.{mostInstructions};
 ghost use mathlib.Core.Path.{_≡_};
 ghost use Prim.Native.Nat.{ℕ, _+_, _≤_, _<_};
 ghost use mathlib.Core.List.{map};
 ghost use lib.ListN.{length, take, drop};
 ghost use lib.IntN.{pos};
 ghost use lib.Signed.{ltZ};
-ghost use Rattle.page_meaning.specs.Limits.{mostVertices};
+ghost use Rattle.page_meaning.specs.Limits.{mostVertices, mostDecisions};
 ghost use Rattle.page_walks.specs.Walk.{Below, closed};
 ghost use Rattle.page_walks.specs.Grid.{weight, farN};
 ghost use Rattle.page_walks.specs.Sizes.{Sized, AllWithin};
@@ -52,8 +55,14 @@ fn named(shown: &[bool], bytes: &[u8], count: usize) -> Naming
 }
 
 // Node 1: the formula is false by what was decided.
-pub fn false_leaf(kinds: &[u8], truths: [u8; 120], decided: usize, part: &[u8], at: usize) -> Past
-    requires { ⌜ (length (now kinds) ≤ 320) × (decided ≤ 120) × (at < length (now part)) ⌝ }
+pub fn false_leaf(
+    kinds: &[u8],
+    truths: [u8; PLACES],
+    decided: usize,
+    part: &[u8],
+    at: usize,
+) -> Past
+    requires { ⌜ (length (now kinds) ≤ mostInstructions) × (decided ≤ mostDecisions) × (at < length (now part)) ⌝ }
     ensures { λ r. ⌜ ((base : ℕ) → outcomeOf base (now (part .entry)) r ≡ falseNode (knownKinds (now (kinds .entry)) (map bit (take decided truths))) (base + at) (drop (at + 1) (now (part .entry)))) ⌝ }
 {
     let t = truth::knowing::known(kinds, &truths[..decided]);
@@ -65,7 +74,7 @@ pub fn false_leaf(kinds: &[u8], truths: [u8; 120], decided: usize, part: &[u8], 
 }
 
 // Following the edges and back to the first gives a sum below zero.
-fn below_zero(g: &[[i64; 17]; 17], vertices: &[u8]) -> bool
+fn below_zero(g: &[[i64; VERTICES]; VERTICES], vertices: &[u8]) -> bool
     requires { ⌜ (0 < length (now vertices)) × (length (now vertices) ≤ mostVertices) × Below mostVertices (now vertices) ⌝ }
     requires { ⌜ Sized mostVertices (now g) × AllWithin farN mostVertices (now g) ⌝ }
     ensures { λ r. ⌜ r ≡ ltZ (closed (weight (now (g .entry))) (now (vertices .entry))) (pos 0) ⌝ }
@@ -75,7 +84,7 @@ fn below_zero(g: &[[i64; 17]; 17], vertices: &[u8]) -> bool
 }
 
 // Node 2: count 1 to 17, vertices.
-pub fn cycle(shown: &[bool], g: &[[i64; 17]; 17], part: &[u8], at: usize) -> Past
+pub fn cycle(shown: &[bool], g: &[[i64; VERTICES]; VERTICES], part: &[u8], at: usize) -> Past
     requires { ⌜ (length (now shown) ≤ mostVertices) × (at < length (now part)) ⌝ }
     requires { ⌜ Sized mostVertices (now g) × AllWithin farN mostVertices (now g) ⌝ }
     ensures { λ r. ⌜ ((F : Formula) (base : ℕ) → Shows (now (shown .entry)) (F .ranges) → outcomeOf base (now (part .entry)) r ≡ cycleNode mostVertices F (now (g .entry)) (base + at) (drop (at + 1) (now (part .entry)))) ⌝ }
@@ -88,7 +97,7 @@ pub fn cycle(shown: &[bool], g: &[[i64; 17]; 17], part: &[u8], at: usize) -> Pas
     if count == 0 {
         return Past::Refused(14, from);
     }
-    if 17 < count {
+    if VERTICES < count {
         return Past::Refused(14, from);
     }
     let first = from + 1;

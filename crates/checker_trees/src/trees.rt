@@ -3,6 +3,8 @@ use crate::nodes::Past;
 use crate::nodes::cycle;
 use crate::nodes::false_leaf;
 use facts::decide;
+use limits::PLACES;
+use limits::VERTICES;
 ghost use mathlib.Core.Path.{_≡_};
 ghost use Prim.Native.Nat.{ℕ, _+_, _≤_};
 ghost use lib.ListN.{length, drop};
@@ -23,8 +25,8 @@ pub fn tree(
     shown: &[bool],
     part: &[u8],
     at: usize,
-    truths: [u8; 120],
-    g: &[[i64; 17]; 17],
+    truths: [u8; PLACES],
+    g: &[[i64; VERTICES]; VERTICES],
     todo: usize,
 ) -> Past
     requires { ⌜ Lendable (now kinds) (now left) (now right) (now most) (now shown) ⌝ }

@@ -8,8 +8,8 @@ ghost use Rattle.page_meaning.specs.Limits.{mostVertices};
 ghost use Rattle.page_walks.specs.Grid.{weight, farN};
 ghost use Rattle.page_walks.specs.Sizes.{filled, tabled, wide, Bounded, Sized, RowWithin, AllWithin};
 ghost use Rattle.page_walks.specs.Near.{relax, Triangle};
-use grid::VERTICES;
 use grid::lesser;
+use limits::VERTICES;
 
 // One row of the least sums with a new edge: reach is the sum of the way to the edge and along it, on the row of the way on.
 pub fn relax_row(row: &mut [i64], on: &[i64], n: usize, reach: i64)

@@ -10,8 +10,8 @@ ghost use Rattle.page_walks.specs.Grid.{row, weight, farN};
 ghost use Rattle.page_walks.specs.Sizes.{filled, tabled, wide, Bounded, Sized, RowWithin, AllWithin};
 ghost use Rattle.page_walks.specs.Search.{least, first, best, greedy, search};
 ghost use Rattle.cycles.specs.Found.{cycleOf, Opens, Ways};
-use grid::VERTICES;
 use grid::lesser;
+use limits::VERTICES;
 
 // The weights of the edges into s, from each vertex below n.
 fn column(g: &[[i64; VERTICES]; VERTICES], row: &mut [i64], n: usize, s: usize)

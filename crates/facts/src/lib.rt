@@ -1,5 +1,5 @@
 // FORMAT 5.6: the facts of a formula as edges of the grid.
-use grid::VERTICES;
+use limits::VERTICES;
 ghost use mathlib.Core.Path.{_≡_};
 ghost use Prim.Native.Nat.{_<_};
 ghost use mathlib.Core.Option.{some};

@@ -1,6 +1,6 @@
 // What a question's formulas are read under.
 use crate::types::Deed;
-use question::limits::COLUMNS;
+use limits::COLUMNS;
 use question::types::Column;
 use question::types::Condition;
 use question::types::Mode;

@@ -2,10 +2,10 @@
 use crate::claims::line_of;
 use crate::deeds::deed_of;
 use crate::lines::line_at;
+use limits::INSTRUCTIONS;
+use limits::PLACES;
 use program::types::Formula;
-use program::types::INSTRUCTIONS;
 use program::types::Outline;
-use program::types::PLACES;
 use program::types::Program;
 use question::types::Question;
 use question::types::Verb;

@@ -1,5 +1,5 @@
 // The declared types: the table's words (FORMAT 5.2), and what they are read under. specs/Able says what they mean.
-use question::limits::COLUMNS;
+use limits::COLUMNS;
 use question::types::Column;
 use question::types::Condition;
 use sights::types::Sight;

@@ -8,7 +8,7 @@ use native.Mathlib.Omega.{arith}
 use borrow.Author.Tests.{lt-ltb, le-ltb}
 use lib.ListN.{length, getD, set}
 use lib.Seq.{getD-set-same, getD-set-other}
-use Rattle.program.specs.Built.{mostInstructions}
+use Rattle.page_formulas.specs.Costs.{mostInstructions}
 use Rattle.program_tree.specs.Nodes.{Laid}
 use Rattle.goals.specs.Goals.{goal, coded, atOf, wantOf, goalOf, stackOf, total, Waiting}
 use Rattle.program_tree.specs.Nodes.{Tree}

@@ -9,7 +9,7 @@ use Rattle.page_numbers.proofs.Bridge.{ints, +law}
 use Rattle.page_walks.specs.Grid.{Grid, weight}
 use Rattle.page_walks.specs.Walk.{Sat}
 use Rattle.page_formulas.specs.Program.{Values, Place, test}
-use Rattle.program.specs.Built.{mostInstructions}
+use Rattle.page_formulas.specs.Costs.{mostInstructions}
 use Rattle.page_sheets.specs.Facts.{taken}
 use Rattle.goals.specs.Closed.{Enters}
 use Rattle.page_formulas.specs.Postfix.{says}

@@ -16,7 +16,7 @@ use Rattle.page_formulas.specs.Known.{Three, fails, passes, open?, not3}
 use Rattle.page_formulas.specs.Vertices.{InRange}
 use Rattle.page_formulas.specs.Formulas.{Formula}
 use Rattle.page_formulas.specs.Said.{Says}
-use Rattle.program.specs.Built.{mostInstructions}
+use Rattle.page_formulas.specs.Costs.{mostInstructions}
 use Rattle.goals.specs.Closed.{Tight}
 use Rattle.program_tree.specs.Nodes.{Tree, kindAt, sizeAt, Laid, Describes}
 

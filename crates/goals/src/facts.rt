@@ -1,7 +1,7 @@
 // A place that is wanted true, or false: one fact more, put into the closure of those before it.
 use closure::relax_in;
-use grid::VERTICES;
 use ints::weights::negation;
+use limits::VERTICES;
 ghost use Prim.Native.Nat.{suc, _<_};
 ghost use Rattle.page_meaning.specs.Limits.{mostVertices};
 ghost use Rattle.page_walks.specs.Sizes.{Sized};

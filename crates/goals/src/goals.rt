@@ -1,8 +1,8 @@
 // A goal as one number: an instruction's, where it is wanted false; past all of them where it is wanted true.
-use program_tree::types::INSTRUCTIONS;
+use limits::INSTRUCTIONS;
 ghost use Prim.Native.Nat.{_<_};
 ghost use mathlib.Core.Path.{_≡_};
-ghost use Rattle.program.specs.Built.{mostInstructions};
+ghost use Rattle.page_formulas.specs.Costs.{mostInstructions};
 ghost use Rattle.goals.specs.Goals.{coded, atOf, wantOf};
 
 pub fn goal(at: usize, want: bool) -> u16

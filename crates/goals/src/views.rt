@@ -1,10 +1,10 @@
 // What the facts so far say of each instruction: Kleene's three values, as codes (0 false, 1 not known, 2 true).
-use grid::VERTICES;
+use limits::INSTRUCTIONS;
+use limits::VERTICES;
 use program_tree::operands::edge_of;
 use program_tree::operands::first_of;
 use program_tree::operands::kind_of;
 use program_tree::types::Extent;
-use program_tree::types::INSTRUCTIONS;
 use program_tree::types::ROW;
 ghost use Prim.Native.Nat.{suc, _<_};
 ghost use mathlib.Core.Path.{_≡_};
@@ -13,7 +13,7 @@ ghost use Rattle.page_meaning.specs.Limits.{mostVertices};
 ghost use Rattle.page_walks.specs.Sizes.{Sized};
 ghost use Rattle.page_formulas.specs.Known.{not3};
 ghost use Rattle.truth.specs.Cells.{joinedBy};
-ghost use Rattle.program.specs.Built.{mostInstructions};
+ghost use Rattle.page_formulas.specs.Costs.{mostInstructions};
 ghost use Rattle.program_tree.specs.Nodes.{Placed, placeOf, treeOf, Laid};
 ghost use Rattle.goals.specs.Closed.{Tight};
 ghost use Rattle.goals.specs.Goals.{threeBy, wantedBy, seenPlace, seenConstant, Shows, Sees};

@@ -1,4 +1,5 @@
 // Facts between vertices: a grid of edge weights by value.
+use limits::VERTICES;
 ghost use mathlib.Core.Path.{_≡_};
 ghost use Prim.Native.Nat.{_-_, _<_, _≤_};
 ghost use lib.ListN.{length};
@@ -8,9 +9,6 @@ ghost use Rattle.page_meaning.specs.Limits.{mostVertices};
 ghost use Rattle.page_walks.specs.Grid.{blank, weight, tighten, farN};
 ghost use Rattle.page_walks.specs.Sizes.{Sized, AllWithin};
 ghost use Rattle.page_walks.specs.Search.{least, first};
-
-// Vertex numbers are below it.
-pub const VERTICES: usize = 17;
 
 // The weight of a missing edge.
 pub const FAR: i64 = 1099511627776;

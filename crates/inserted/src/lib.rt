@@ -1,4 +1,6 @@
 // The value that an insert fixes in a column of a no sheet's row: checker and writer ask for it alike.
+use limits::COLUMNS;
+use limits::ROWS;
 use question::types::Question;
 use question::types::Row;
 use question::types::Verb;
@@ -7,6 +9,7 @@ ghost use mathlib.Core.Option.{none, some};
 ghost use mathlib.Core.List.{[], _++_, map};
 ghost use Prim.Native.Nat.{ℕ, _≤_, _<_};
 ghost use lib.ListN.{getD, take, replicate};
+ghost use Rattle.page_meaning.specs.Limits.{mostColumns, mostRows};
 ghost use Rattle.question.specs.Held.{rowOf, questionOf};
 ghost use Rattle.sights.specs.Seen.{Whole};
 ghost use Rattle.page_sheets.specs.Rows.{fixed};
@@ -19,16 +22,16 @@ pub enum Fixed {
 }
 
 // One of the inserted rows.
-fn row_at(rows: [Row; 4], count: usize, i: usize) -> Row
-    requires { ⌜ (i < count) × (count ≤ 4) ⌝ }
+fn row_at(rows: [Row; ROWS], count: usize, i: usize) -> Row
+    requires { ⌜ (i < count) × (count ≤ mostRows) ⌝ }
     ensures { λ r. ⌜ ((width : ℕ) → rowOf width r ≡ getD (map (rowOf width) (take count rows)) i []) ⌝ }
 {
     rows[i]
 }
 
 // A row's values, the first of them in column `first`: the one in column c.
-fn row_value(values: [i32; 8], first: usize, width: usize, c: usize) -> Fixed
-    requires { ⌜ width ≤ 8 ⌝ }
+fn row_value(values: [i32; COLUMNS], first: usize, width: usize, c: usize) -> Fixed
+    requires { ⌜ width ≤ mostColumns ⌝ }
     ensures { λ r. ⌜ optionOf r ≡ getD (replicate first none ++ map some (take width values)) c none ⌝ }
 {
     if c < first {

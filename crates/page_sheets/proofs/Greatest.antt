@@ -44,7 +44,6 @@ unsnoc y (q ∷ done) p todo [] d l a = absurd (omega arith)
 unsnoc y (q ∷ done) p todo (b ∷ ds) d l a = let r = unsnoc y done p todo ds d (omega arith) (a .1) in ((a .0, r .0), r .1)
 
 module _ (n : ℕ) (F : Formula) where
-
   abbrev Best : Growth → Type 0
   Best (shut t) = Unit {0}
   Best (openAt x) = GreatestLeaf F x

@@ -13,7 +13,9 @@ use Rattle.page_formulas.specs.Program as P
 use Rattle.program.specs.declared.types.Program.{Program}
 use Rattle.program.specs.declared.types.Joint.{Joint}
 use Rattle.program.specs.declared.types.Joint.the-variants.{And, Or, Not, True, False}
-use Rattle.program.specs.Built.{mostInstructions, mostPlaces, instrOf, Room, Emits, Builds, Means}
+use Rattle.page_formulas.specs.Costs.{mostInstructions}
+use Rattle.page_meaning.specs.Limits.{mostDecisions}
+use Rattle.program.specs.Built.{instrOf, Room, Emits, Builds, Means}
 
 -- one more entry after the first n of an array of N
 pub push : {A : Type 0} (N : ℕ) (l : List A) (n : ℕ) (a : A) → length l ≡ N → n < N → take (n + 1) (set l n a) ≡ take n l ++ (a ∷ [])
@@ -122,9 +124,9 @@ emit-place p a b k room =
       emits =
           record {
             kinds = push mostInstructions (p .kinds) (p .count) 0 (room .long .kinds) (omega (arith, room .instructions));
-            left = push mostPlaces (p .left) (p .places) a (room .long .left) (omega (arith, room .places));
-            right = push mostPlaces (p .right) (p .places) b (room .long .right) (omega (arith, room .places));
-            most = push mostPlaces (p .most) (p .places) k (room .long .most) (omega (arith, room .places));
+            left = push mostDecisions (p .left) (p .places) a (room .long .left) (omega (arith, room .places));
+            right = push mostDecisions (p .right) (p .places) b (room .long .right) (omega (arith, room .places));
+            most = push mostDecisions (p .most) (p .places) k (room .long .most) (omega (arith, room .places));
             count = refl;
             places = refl;
           };

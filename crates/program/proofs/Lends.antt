@@ -8,7 +8,7 @@ use native.Mathlib.Omega.{arith}
 use lib.Dec.{T}
 use lib.IntN.{ℤ, pos}
 use lib.ListN.{length, getD, take, length-map, List·getD-map}
-use Rattle.page_meaning.specs.Limits.{mostVertices}
+use Rattle.page_meaning.specs.Limits.{mostVertices, mostDecisions}
 use Rattle.page_meaning.specs.Contents.{Range}
 use Rattle.page_questions.specs.Accepted.{Every}
 use Rattle.page_walks.specs.Walk.{Below}
@@ -17,7 +17,7 @@ use Rattle.page_formulas.specs.Program.{Place, places, Program}
 use Rattle.page_formulas.specs.Kinds.{nowhere}
 use Rattle.page_formulas.specs.Vertices.{Ranges, isSome, present}
 use Rattle.page_formulas.specs.Formulas.{Formula}
-use Rattle.program.specs.Built.{mostInstructions, mostPlaces}
+use Rattle.page_formulas.specs.Costs.{mostInstructions}
 use Rattle.program.specs.Compiled.{Compiled, Spanned, SmallSpans}
 use Rattle.program.specs.declared.types.Formula as compiled
 use Rattle.page_formulas.specs.Proper.{SmallPlace, SmallRange, Proper}
@@ -96,7 +96,7 @@ module _ (f : compiled.Formula) (F : Formula) (is : Compiled f F) where
     pub count-few : f .program .count ≤ mostInstructions
     count-few = omega (arith, is .program .count, proper .short)
 
-    pub places-few : f .program .places ≤ mostPlaces
+    pub places-few : f .program .places ≤ mostDecisions
     places-few = omega (arith, is .program .places, proper .few-places)
 
     pub places-of : Places ls rs ms

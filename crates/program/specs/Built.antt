@@ -7,7 +7,7 @@ use lib.IntN.{ℤ, pos, negℤ}
 use lib.Signed.{_≤ℤ_}
 use Rattle.page_meaning.specs.Limits.{mostDecisions}
 use Rattle.page_formulas.specs.Program as P
-use Rattle.page_formulas.specs.Costs as Costs
+use Rattle.page_formulas.specs.Costs.{mostInstructions}
 use Rattle.program.specs.declared.types.Program.{Program}
 use Rattle.program.specs.declared.types.End.{End}
 use Rattle.program.specs.declared.types.Joint.{Joint}
@@ -25,13 +25,6 @@ instrOf False = P.falseI
 abbrev pub termOf : Term → P.Term
 termOf t = record { vertex = t .vertex; offset = t .offset }
 
--- how many instructions and places a compiled program has room for: those of the longest formula, and a few instructions to spare
-abbrev pub mostInstructions : ℕ
-mostInstructions = Costs.mostInstructions + 5
-
-abbrev pub mostPlaces : ℕ
-mostPlaces = mostDecisions
-
 -- the program in four lent arrays, as far as it is written
 abbrev pub programOf : List ℕ → List ℕ → List ℕ → List ℤ → End → Program
 programOf kinds left right most e = record { kinds = kinds; count = e .count; left = left; right = right; most = most; places = e .places }
@@ -39,15 +32,15 @@ programOf kinds left right most e = record { kinds = kinds; count = e .count; le
 -- its arrays are as long as declared
 pub record Long (p : Program) : Type 0 where
   pub kinds : length (p .kinds) ≡ mostInstructions
-  pub left : length (p .left) ≡ mostPlaces
-  pub right : length (p .right) ≡ mostPlaces
-  pub most : length (p .most) ≡ mostPlaces
+  pub left : length (p .left) ≡ mostDecisions
+  pub right : length (p .right) ≡ mostDecisions
+  pub most : length (p .most) ≡ mostDecisions
 
 -- so many instructions and places more fit
 pub record Room (p : Program) (n m : ℕ) : Type 0 where
   pub long : Long p
   pub instructions : p .count + n ≤ mostInstructions
-  pub places : p .places + m ≤ mostPlaces
+  pub places : p .places + m ≤ mostDecisions
 
 -- r is p with the instructions x after it
 pub record Emits (p r : Program) (x : P.Program) : Type 0 where

@@ -12,7 +12,7 @@ use Rattle.page_formulas.specs.Program.{Program, Place, places}
 use Rattle.page_formulas.specs.Kinds.{kindsOf}
 use Rattle.page_formulas.specs.Formulas.{Formula}
 use Rattle.page_formulas.specs.Vertices.{Ranges, present}
-use Rattle.program.specs.Built.{mostInstructions}
+use Rattle.page_formulas.specs.Costs.{mostInstructions}
 
 -- the code's flags say which vertices the formula has
 pub record Shows (shown : List Bool) (rs : Ranges) : Type 0 where

@@ -1,11 +1,11 @@
 // A program is written into four arrays that the caller lends: each step takes where it ends, and gives back where it ends then.
 use crate::types::End;
-use crate::types::INSTRUCTIONS;
 use crate::types::Joint;
-use crate::types::PLACES;
 use crate::types::Term;
 use ints::weights::difference;
 use ints::weights::sum;
+use limits::INSTRUCTIONS;
+use limits::PLACES;
 use question::types::Op;
 ghost use mathlib.Core.Path.{_≡_};
 ghost use mathlib.Core.List.{[], _∷_};

@@ -1,15 +1,7 @@
 // The declared types: a formula as the product holds it. specs/Built says what the used fields mean.
-use question::limits::COLUMNS;
-use question::limits::COMPARISONS;
-use question::limits::TOKENS;
-
-// How many vertices and places a formula has at most, and how many instructions there is room for: those of the longest formula, and a few
-// to spare (specs: mostVertices, mostPlaces, mostInstructions).
-pub const VERTICES: usize = 1 + 2 * COLUMNS;
-
-pub const PLACES: usize = 12 * COMPARISONS + 6 * COLUMNS;
-
-pub const INSTRUCTIONS: usize = 6 * (TOKENS + 3 * COMPARISONS) + 13 * COLUMNS + 7 + 5;
+use limits::INSTRUCTIONS;
+use limits::PLACES;
+use limits::VERTICES;
 
 // The first `count` kinds are the program: 0 place, 1 and, 2 or, 3 not, 4 true, 5 false. The first `places` entries of the other
 // three arrays are its places in order: left − right ≤ most.

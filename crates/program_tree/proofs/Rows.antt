@@ -9,7 +9,7 @@ use lib.Seq.{getD-take}
 use Rattle.page_formulas.specs.Program.{Place, Instr, place, andI, orI, notI, trueI, falseI, Program, places}
 use Rattle.page_formulas.specs.Kinds.{kindOf, kindsOf, nowhere}
 use Rattle.page_formulas.specs.Form.{Rises}
-use Rattle.program.specs.Built.{mostInstructions}
+use Rattle.page_formulas.specs.Costs.{mostInstructions}
 use Rattle.page_formulas.specs.Postfix.{counted, placesIn}
 use Rattle.program_tree.specs.Nodes.{Reading}
 use Rattle.page_formulas.proofs.Trees.{instrAt, State, size-small, pushed-one, pushed-two}

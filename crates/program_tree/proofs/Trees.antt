@@ -13,7 +13,8 @@ use Rattle.page_formulas.specs.Form.{Rises}
 use Rattle.page_formulas.specs.Formulas.{Formula}
 use Rattle.page_formulas.specs.Proper.{Proper}
 use Rattle.page_formulas.specs.Postfix.{says, firstOf, placesIn, valueAt}
-use Rattle.program.specs.Built.{mostInstructions, mostPlaces}
+use Rattle.page_formulas.specs.Costs.{mostInstructions}
+use Rattle.page_meaning.specs.Limits.{mostDecisions}
 use Rattle.program.specs.Lent.{placeAt, Coded}
 use Rattle.program.proofs.Lends.{lent-place}
 use Rattle.page_sheets.specs.Facts.{taken}
@@ -49,7 +50,7 @@ module _ (F : Formula) (kinds : List ℕ) (n : ℕ) (left right : List ℕ) (mos
         let r = subst (λ m. Numbered p m q) d (place-number p j q (omega (arith, c .n-is)) is) in
         (omega (arith, r .0, c .few-is), r .1)
 
-    few-before : placesIn kinds j < mostPlaces
+    few-before : placesIn kinds j < mostDecisions
     few-before = omega (arith, number (instr .0) (instr .1) .0, c .few-is, proper .few-places)
 
     lent : placeAt (take few left) (take few right) (take few most) (placesIn kinds j) ≡ placeAt left right most (placesIn kinds j)

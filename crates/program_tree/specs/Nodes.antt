@@ -5,13 +5,13 @@ use mathlib.Core.Bool.{Bool}
 use mathlib.Core.List.{List, [], map}
 use lib.ListN.{length, getD, take}
 use lib.IntN.{ℤ, pos}
-use Rattle.page_meaning.specs.Limits.{mostVertices}
+use Rattle.page_meaning.specs.Limits.{mostVertices, mostDecisions}
 use Rattle.page_formulas.specs.Program.{Values, Place, Program, test, truth}
 use Rattle.page_formulas.specs.Form.{Rises}
 use Rattle.page_formulas.specs.Postfix.{says, sizeOf, placesIn, valueAt}
 use Rattle.page_sheets.specs.Facts.{taken}
 use Rattle.grid.specs.Edges.{Fact}
-use Rattle.program.specs.Built.{mostInstructions, mostPlaces}
+use Rattle.page_formulas.specs.Costs.{mostInstructions}
 use Rattle.program.specs.Lent.{placeAt}
 use Rattle.program_tree.specs.declared.types.Extent.{Extent}
 
@@ -49,7 +49,7 @@ pub record Plantable (kinds : List ℕ) (n : ℕ) : Type 0 where
   pub short : n ≤ mostInstructions
   pub long : n ≤ length kinds
   pub formed : Rises 0 (take n kinds) 1
-  pub few : (j : ℕ) → j < n → getD kinds j 0 ≡ 0 → placesIn kinds j < mostPlaces
+  pub few : (j : ℕ) → j < n → getD kinds j 0 ≡ 0 → placesIn kinds j < mostDecisions
 
 -- the rows of the first n instructions
 pub record Filled (kinds left right : List ℕ) (most : List ℤ) (nodes : List (List ℕ)) (weights : List ℤ) (n : ℕ) : Type 0 where

@@ -1,15 +1,15 @@
 // The rows, from a program's kinds and places.
 use crate::operands::first_of;
 use crate::operands::size_of;
-use crate::types::INSTRUCTIONS;
-use crate::types::PLACES;
 use crate::types::ROW;
+use limits::INSTRUCTIONS;
+use limits::PLACES;
 ghost use Prim.Native.Nat.{_≤_};
 ghost use mathlib.Core.Path.{_≡_};
 ghost use mathlib.Core.List.{[], _∷_};
 ghost use lib.ListN.{length};
 ghost use Rattle.page_formulas.specs.Postfix.{sizeOf};
-ghost use Rattle.program.specs.Built.{mostInstructions};
+ghost use Rattle.page_formulas.specs.Costs.{mostInstructions};
 ghost use Rattle.program_tree.specs.Nodes.{column, Reading, Plantable, Filled};
 
 // How many instructions there are in instruction i and its operands.

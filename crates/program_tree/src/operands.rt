@@ -1,13 +1,13 @@
 // What an instruction's row says. A program is written in postfix order, so an instruction's last operand ends right before it, and the
 // one before that where the last one starts.
 use crate::types::Edge;
-use crate::types::INSTRUCTIONS;
 use crate::types::ROW;
+use limits::INSTRUCTIONS;
 ghost use Prim.Native.Nat.{_-_, _<_};
 ghost use mathlib.Core.Path.{_≡_};
 ghost use lib.ListN.{getD};
 ghost use lib.IntN.{pos};
-ghost use Rattle.program.specs.Built.{mostInstructions};
+ghost use Rattle.page_formulas.specs.Costs.{mostInstructions};
 ghost use Rattle.program_tree.specs.Nodes.{cell, firstIn, placeOf};
 
 fn wide(x: u16) -> usize

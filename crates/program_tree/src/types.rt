@@ -1,7 +1,4 @@
-// The declared types, and their limits (specs: mostInstructions and mostPlaces of crate program; mostVertices is crate grid's VERTICES).
-pub const INSTRUCTIONS: usize = 320;
-
-pub const PLACES: usize = 120;
+// The declared types.
 
 // An instruction's row: its kind, how many instructions there are in it and its operands, and of a place the two vertices.
 pub const ROW: usize = 4;

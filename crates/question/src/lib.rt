@@ -1,2 +1,1 @@
-pub mod limits;
 pub mod types;

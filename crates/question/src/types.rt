@@ -1,8 +1,8 @@
 // The declared types: a question as the product holds it. specs/Held says what the used fields mean.
-use crate::limits::COLUMNS;
-use crate::limits::ROWS;
-use crate::limits::TABLES;
-use crate::limits::TOKENS;
+use limits::COLUMNS;
+use limits::ROWS;
+use limits::TABLES;
+use limits::TOKENS;
 
 // < ≤ = ≥ > ≠
 pub enum Op {

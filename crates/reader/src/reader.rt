@@ -9,10 +9,10 @@ ghost use Rattle.question.specs.Held.{Reads, ShapeHeld, ChangeHeld, questionOf,
 use changes::change::change_at;
 use fields::fields::Byte;
 use fields::fields::byte_at;
-use question::limits::COLUMNS;
-use question::limits::PAST_TABLES;
-use question::limits::ROWS;
-use question::limits::TABLES;
+use limits::COLUMNS;
+use limits::PAST_TABLES;
+use limits::ROWS;
+use limits::TABLES;
 use question::types::Answer;
 use question::types::Change;
 use question::types::Column;

@@ -2,12 +2,12 @@
 use crate::terms::side_at;
 use crate::terms::term_at;
 use crate::types::Sight;
+use limits::INSTRUCTIONS;
+use limits::PLACES;
 use program::build::compare;
 use program::build::emit;
 use program::types::End;
-use program::types::INSTRUCTIONS;
 use program::types::Joint;
-use program::types::PLACES;
 use question::types::Condition;
 use question::types::Kind;
 use question::types::Token;

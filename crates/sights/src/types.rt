@@ -1,5 +1,5 @@
 // The declared types: what a column's term is read from. specs/Seen says what it means.
-use question::limits::COLUMNS;
+use limits::COLUMNS;
 use question::types::Setting;
 
 // Which term stands for a column: of the first row or of the second, as it is or moved by the settings. There are `total` columns; the

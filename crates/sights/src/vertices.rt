@@ -1,8 +1,8 @@
 // The vertices of a formula and what they range over.
 use ints::weights::wide;
-use program::types::VERTICES;
+use limits::COLUMNS;
+use limits::VERTICES;
 use program::types::Vertices;
-use question::limits::COLUMNS;
 use question::types::Column;
 ghost use mathlib.Core.Path.{_≡_};
 ghost use mathlib.Core.Bool.{not, _&&_};

@@ -1,6 +1,6 @@
 // Before any place is decided: the closure of the ranges' facts, which needs no search. A vertex that the formula lacks counts as 0.
-use grid::VERTICES;
 use ints::weights::difference;
+use limits::VERTICES;
 ghost use Prim.Native.Nat.{ℕ, _<_};
 ghost use mathlib.Core.Path.{_≡_};
 ghost use Rattle.page_meaning.specs.Limits.{mostVertices};

@@ -9,7 +9,7 @@ use lib.ListN.{length, getD, set}
 use lib.Seq.{getD-set-same, getD-set-other}
 use Rattle.page_walks.specs.Grid.{Grid}
 use Rattle.page_formulas.specs.Program.{Values}
-use Rattle.program.specs.Built.{mostInstructions}
+use Rattle.page_formulas.specs.Costs.{mostInstructions}
 use Rattle.program_tree.specs.Nodes.{Tree, sizeAt}
 use Rattle.goals.specs.Goals.{Goal, atOf, goalOf, stackOf, Each, total, Waits, Standing, Leads}
 use Rattle.goals.proofs.Stacks.{below, stack-top, height}

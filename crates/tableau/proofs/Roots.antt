@@ -12,7 +12,7 @@ use Rattle.page_walks.specs.Walk.{Sat}
 use Rattle.page_formulas.specs.Formulas.{Formula}
 use Rattle.page_formulas.specs.Program.{Program}
 use Rattle.page_formulas.specs.Proper.{Proper}
-use Rattle.program.specs.Built.{mostInstructions}
+use Rattle.page_formulas.specs.Costs.{mostInstructions}
 use Rattle.program.specs.Compiled.{Ranging, Ranged}
 use Rattle.program.proofs.Ranges.{ranged}
 use Rattle.page_sheets.proofs.Settles.{settle, truth-settle}

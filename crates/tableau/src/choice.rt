@@ -1,14 +1,14 @@
 // Which goal is split, and which of its operands is wanted first: the smallest, since that leaves the least to choose.
 use crate::types::Halves;
 use goals::goals::goal_at;
+use limits::INSTRUCTIONS;
 use program_tree::operands::first_of;
 use program_tree::operands::size_of;
-use program_tree::types::INSTRUCTIONS;
 use program_tree::types::ROW;
 ghost use Prim.Native.Nat.{_-_, _≤_, _<_};
 ghost use mathlib.Core.Path.{_≡_};
 ghost use lib.ListN.{length};
-ghost use Rattle.program.specs.Built.{mostInstructions};
+ghost use Rattle.page_formulas.specs.Costs.{mostInstructions};
 ghost use Rattle.program_tree.specs.Nodes.{cell};
 ghost use Rattle.tableau.specs.Choices.{InTree, TakenOut, Operands};
 

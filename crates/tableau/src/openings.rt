@@ -1,11 +1,11 @@
 // Whether a formula is true at some values: in range, or such that meet given facts.
 use crate::search::solve;
 use crate::types::Opened;
-use grid::VERTICES;
+use limits::INSTRUCTIONS;
+use limits::VERTICES;
 use program::types::Formula;
 use program_tree::nodes::lay;
 use program_tree::types::Extent;
-use program_tree::types::INSTRUCTIONS;
 use program_tree::types::ROW;
 use spreads::begin;
 ghost use Prim.Native.Nat.{suc};

@@ -1,5 +1,5 @@
 // The declared types.
-use grid::VERTICES;
+use limits::VERTICES;
 
 // Are there values as asked for? If so, which; vertex 0 stands for 0.
 pub struct Opened {

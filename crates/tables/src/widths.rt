@@ -10,8 +10,8 @@ ghost use Rattle.tables.specs.Shapes.{WidthsRead, Counted};
 ghost use Rattle.question.specs.Held.{ShapeHeld, widthsOf};
 use fields::fields::Byte;
 use fields::fields::byte_at;
-use question::limits::PAST_COLUMNS;
-use question::limits::TABLES;
+use limits::PAST_COLUMNS;
+use limits::TABLES;
 use question::types::Answer;
 use question::types::Shape;
 

@@ -9,7 +9,7 @@ use fields::fields::Byte;
 use fields::fields::Number;
 use fields::fields::byte_at;
 use fields::fields::number_at;
-use question::limits::COMPARISONS;
+use limits::COMPARISONS;
 use question::types::Kind;
 use question::types::Op;
 use question::types::Side;

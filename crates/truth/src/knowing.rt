@@ -1,4 +1,6 @@
 // What the places decided so far say of a formula: Kleene's three values, on a stack.
+use limits::INSTRUCTIONS;
+ghost use Rattle.page_formulas.specs.Costs.{mostInstructions};
 ghost use mathlib.Core.Path.{_≡_};
 ghost use Prim.Native.Nat.{_≤_};
 ghost use mathlib.Core.List.{map};
@@ -83,10 +85,10 @@ fn pushed(kind: u8, truths: &[u8], next: usize) -> Truth
 
 // Of a program, given by the kinds of its instructions, under the truths of its first places (0 false, else true).
 pub fn known(kinds: &[u8], truths: &[u8]) -> Truth
-    requires { ⌜ length (now kinds) ≤ 320 ⌝ }
+    requires { ⌜ length (now kinds) ≤ mostInstructions ⌝ }
     ensures { λ r. ⌜ threeOf r ≡ knownKinds (now (kinds .entry)) (map bit (now (truths .entry))) ⌝ }
 {
-    let mut cells = [Truth::Fails; 320];
+    let mut cells = [Truth::Fails; INSTRUCTIONS];
     let mut height: usize = 0;
     let mut next: usize = 0;
     let mut i: usize = 0;

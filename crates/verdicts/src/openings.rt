@@ -1,7 +1,7 @@
 // The first formula that is open.
 use formula::formulas::formula;
 use formula::formulas::formula_count;
-use grid::VERTICES;
+use limits::VERTICES;
 use question::types::Question;
 use tableau::openings::formula_opens;
 ghost use Rattle.question.specs.Held.{Held, questionOf};

@@ -2,7 +2,7 @@
 use inserted::Fixed;
 use inserted::fixed_at;
 use ints::weights::wide;
-use program::types::VERTICES;
+use limits::VERTICES;
 use question::types::Question;
 use room::Spot;
 use room::put;

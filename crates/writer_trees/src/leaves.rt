@@ -3,14 +3,14 @@
 use crate::trees::Edge;
 use crate::trees::known_so_far;
 use closure::relax_in;
-use grid::VERTICES;
 use grid::edge;
 use ints::weights::negation;
+use limits::INSTRUCTIONS;
+use limits::PLACES;
+use limits::VERTICES;
 use program::types::Formula;
-use program::types::PLACES;
 use program_tree::nodes::lay;
 use program_tree::types::Extent;
-use program_tree::types::INSTRUCTIONS;
 use program_tree::types::ROW;
 use spreads::begin;
 use tableau::openings::opens_under;

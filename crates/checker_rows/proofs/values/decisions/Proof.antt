@@ -4,7 +4,7 @@ use native.Mathlib.Omega.{arith}
 use borrow.Author.Needs.{needs}
 use lib.ListN.{length, getD, length-set}
 use mir.Facts.{toZ-ofZ}
-use Rattle.page_meaning.specs.Limits.{mostVertices}
+use Rattle.page_meaning.specs.Limits.{mostVertices, mostDecisions}
 use Rattle.page_walks.proofs.Round.{below-at}
 use Rattle.truth.specs.Cells.{bit}
 use Rattle.checker_rows.specs.NoSheet.{testAt}
@@ -14,7 +14,7 @@ use Rattle.checker_rows.proofs.values.decisions.Tie as tie
 
 abbrev Inv-loop : tie.InvT-loop
 Inv-loop left right most values t₀ i₀ t i =
-    (i ≤ length left) × (length t ≡ 120) × ((k : ℕ) → k < i → bit (getD t k 0) ≡ testAt values left right most k)
+    (i ≤ length left) × (length t ≡ mostDecisions) × ((k : ℕ) → k < i → bit (getD t k 0) ≡ testAt values left right most k)
 
 abbrev μ-loop : tie.MeasureT-loop
 μ-loop left right most values t₀ i₀ t i = length left - i

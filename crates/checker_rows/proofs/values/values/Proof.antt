@@ -7,6 +7,7 @@ use lib.ListN.{length, getD, length-set}
 use mir.Syntax.{w32, w64}
 use mir.Val.{SFits, toZ, ofZ}
 use mir.Facts.{toZ-ofZ}
+use Rattle.page_meaning.specs.Limits.{mostVertices}
 use Rattle.page_sheets.specs.Rows.{valueAt}
 use Rattle.checker_rows.specs.NoSheet.{seen, Small}
 use Rattle.checker_rows.proofs.Valued.{seen-none, seen-more, small-none, small-more}
@@ -14,13 +15,13 @@ use Rattle.checker_rows.proofs.values.values.Statement.{statement}
 use Rattle.checker_rows.proofs.values.values.Tie as tie
 
 abbrev Inv-loop : tie.InvT-loop
-Inv-loop sheet count x₀ j₀ x j = (j ≤ count) × (length x ≡ 17) × ((v : ℕ) → getD x v (pos 0) ≡ seen sheet j v) × Small x
+Inv-loop sheet count x₀ j₀ x j = (j ≤ count) × (length x ≡ mostVertices) × ((v : ℕ) → getD x v (pos 0) ≡ seen sheet j v) × Small x
 
 abbrev μ-loop : tie.MeasureT-loop
 μ-loop sheet count x₀ j₀ x j = count - j
 
 loop-holds : tie.Need-loop-holds Inv-loop μ-loop
-loop-holds c = (search needs, search needs, seen-none 17 (c .before .args .sheet .now), small-none 17)
+loop-holds c = (search needs, search needs, seen-none mostVertices (c .before .args .sheet .now), small-none mostVertices)
 
 mul-read-i32 : tie.Need-mul-read-i32 Inv-loop μ-loop
 mul-read-i32 c = omega (arith, c .loop-test .taken, c .before .before .before .pre .0)

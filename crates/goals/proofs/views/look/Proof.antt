@@ -3,7 +3,7 @@ use Prim.Native.Nat.{_-_, _≤_}
 use mathlib.Core.Path.{_≡_, refl, _∙_, subst}
 use lib.ListN.{length, length-set}
 use denote.Ref.{now}
-use Rattle.program.specs.Built.{mostInstructions}
+use Rattle.page_formulas.specs.Costs.{mostInstructions}
 use Rattle.program_tree.specs.Nodes.{treeOf}
 use Rattle.goals.specs.Goals.{Sees}
 use Rattle.goals.proofs.Looks.{sees-start, sees-more}

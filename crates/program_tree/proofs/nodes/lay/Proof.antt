@@ -9,7 +9,8 @@ use denote.Ref.{now}
 use mir.Syntax.{w64}
 use mir.Val.{toZ, ofZ}
 use mir.Facts.{toZ-ofZ}
-use Rattle.program.specs.Built.{mostInstructions, mostPlaces}
+use Rattle.page_formulas.specs.Costs.{mostInstructions}
+use Rattle.page_meaning.specs.Limits.{mostDecisions}
 use Rattle.program.specs.Lent.{placeAt}
 use Rattle.page_formulas.specs.Postfix.{placesIn, counted}
 use Rattle.page_formulas.proofs.Trees.{State, state-at, first-leaf, counted-other}
@@ -32,7 +33,7 @@ short : (c : tie.In-loop Inv-loop μ-loop) → suc (c .before .loop .i) ≤ most
 short c = omega (arith, c .loop-test .taken, c .before .before .pre .0 .short)
 
 -- the place's number has room
-room : (c : tie.Then1 Inv-loop μ-loop) → suc (c .before .before .before .before .before .loop .next) ≤ mostPlaces
+room : (c : tie.Then1 Inv-loop μ-loop) → suc (c .before .before .before .before .before .loop .next) ≤ mostDecisions
 room c = omega (arith, c .before .before .before .before .before .loop .inv .1, c .before .before .before .before .before .before .pre .0 .few (c .before .before .before .before .before .loop .i) (c .before .before .before .before .loop-test .taken) (c .if1 .taken))
 
 loop-holds : tie.Need-loop-holds Inv-loop μ-loop

@@ -3,7 +3,7 @@ use mathlib.Core.Path.{_≡_, refl, subst}
 use mathlib.Core.Bool.{true, false, cond}
 use lib.ListN.{length}
 use denote.Ref.{now}
-use Rattle.program.specs.Built.{mostInstructions}
+use Rattle.page_formulas.specs.Costs.{mostInstructions}
 use Rattle.program_tree.specs.Nodes.{treeOf}
 use Rattle.goals.specs.Goals.{stackOf, total, Leads, Takes}
 use Rattle.goals.proofs.Turns.{leads-self, takes-then}

@@ -6,7 +6,7 @@ use mathlib.Core.Bool.{Bool, true, false}
 use mathlib.Core.List.{_∷_}
 use lib.ListN.{length, getD}
 use denote.Ref.{now}
-use Rattle.program.specs.Built.{mostInstructions}
+use Rattle.page_formulas.specs.Costs.{mostInstructions}
 use Rattle.program_tree.specs.Nodes.{treeOf}
 use Rattle.goals.specs.Goals.{goalOf, stackOf, Sifts}
 use Rattle.goals.proofs.Stacks.{stack-top, stack-none, height}

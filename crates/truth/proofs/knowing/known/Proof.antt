@@ -6,6 +6,7 @@ use mathlib.Core.Path.{_≡_, refl, _∙_}
 use mathlib.Core.List.{[]}
 use lib.ListN.{length, getD}
 use denote.Ref.{now}
+use Rattle.page_formulas.specs.Costs.{mostInstructions}
 use Rattle.truth.specs.Cells.{stackOf, threeOf}
 use Rattle.page_formulas.specs.Known.{passes}
 use Rattle.truth.specs.declared.knowing.Truth.the-variants.{Fails}
@@ -15,7 +16,7 @@ use Rattle.truth.proofs.knowing.known.Tie as tie
 
 abbrev Inv-loop : tie.InvT-loop
 Inv-loop kinds truths cells₀ height₀ next₀ i₀ cells height next i =
-    (i ≤ length kinds) × (height ≤ i) × (next ≤ i) × (length cells ≡ 320) × (Rest kinds truths next i (stackOf cells height) ≡ Rest kinds truths 0 0 [])
+    (i ≤ length kinds) × (height ≤ i) × (next ≤ i) × (length cells ≡ mostInstructions) × (Rest kinds truths next i (stackOf cells height) ≡ Rest kinds truths 0 0 [])
 
 abbrev μ-loop : tie.MeasureT-loop
 μ-loop kinds truths cells₀ height₀ next₀ i₀ cells height next i = length kinds - i
