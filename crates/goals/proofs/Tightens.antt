@@ -14,6 +14,7 @@ use mir.Facts.{toZ-ofZ}
 use Rattle.page_numbers.specs.Numbers.{minZ}
 use Rattle.page_numbers.proofs.Bridge.{min-spec, ints, eq-out, +law, neg-up, neg-dn}
 use Rattle.page_numbers.proofs.Machine.{machine, lt-true, lt-false, le-true, le-false, true-le, false-le}
+use Rattle.page_meaning.specs.Limits.{mostVertices}
 use Rattle.page_walks.specs.Grid.{Grid, row, weight, tighten, far, farN}
 use Rattle.page_walks.specs.Sizes.{tabled, Sized, filled, AllWithin}
 use Rattle.page_walks.specs.Near.{Weights, relax, Closure}
@@ -48,12 +49,12 @@ module _ (n : ℕ) (near : Grid) (t : Tight n near) where
   }
 
   -- one fact more
-  module _ (few : n ≤ 17) (table : Sized 17 near) (from to : ℕ) (k : ℤ) (hf : from < n) (ht : to < n) where
+  module _ (few : n ≤ mostVertices) (table : Sized mostVertices near) (from to : ℕ) (k : ℤ) (hf : from < n) (ht : to < n) where
     -- the entries between the vertices are those of the new closure
-    closer-relaxed : (r : Grid) → Sized 17 r → ((u v : ℕ) → u < n → v < n → weight r u v ≡ relax (weight near) from to k u v) → pos 0 ≤ℤ (weight near to from +ℤ k) → Closer n near from to k r
+    closer-relaxed : (r : Grid) → Sized mostVertices r → ((u v : ℕ) → u < n → v < n → weight r u v ≡ relax (weight near) from to k u v) → pos 0 ≤ℤ (weight near to from +ℤ k) → Closer n near from to k r
     unfolding Sat
     closer-relaxed r sized e h =
-        let g = tighten near from to k in let m = tightened 17 near from to k table (omega arith) (omega arith) in
+        let g = tighten near from to k in let m = tightened mostVertices near from to k table (omega arith) (omega arith) in
         let c : Closure n (weight g) (weight r) = closure-same n (weight g) (relax (weight near) from to k) (weight r) e (relax-closure n (weight near) (weight near) (tight-closure (weight near) (λ u v hu hv. (omega ints, omega ints))) from to k hf ht (weight g) m h) in
         let less : (u v : ℕ) → u < n → v < n → weight r u v ≤ℤ weight near u v = λ u v hu hv. omega (ints, c .edge u v hu hv, tighten-le near from to k u v) in
         record {
@@ -67,7 +68,7 @@ module _ (n : ℕ) (near : Grid) (t : Tight n near) where
     pub closer-tabled : (r : Grid) → r ≡ tabled (relax (weight near) from to k) n near → pos 0 ≤ℤ (weight near to from +ℤ k) → Closer n near from to k r
     closer-tabled r e h =
         let f = relax (weight near) from to k in
-        closer-relaxed r (rw e (tabled-sized f 17 n near few table)) (λ u v hu hv. rw e (tabled-at f 17 n near few table u v hu hv)) h
+        closer-relaxed r (rw e (tabled-sized f mostVertices n near few table)) (λ u v hu hv. rw e (tabled-at f mostVertices n near few table u v hu hv)) h
 
 -- ---- places
 
@@ -96,13 +97,6 @@ below-zero a c e t = omega (ints, lt-true a (pos 0) t, eq-out e)
 
 pub from-zero : (a c : ℤ) → a ≡ c → ltZ a (pos 0) ≡ false → pos 0 ≤ℤ c
 from-zero a c e t = omega (ints, lt-false a (pos 0) t, eq-out e)
-
-pub tested : (a b c d : ℤ) → a ≡ c → b ≡ d → leZ a b ≡ true → c ≤ℤ d
-tested a b c d e f t = omega (ints, le-true a b t, eq-out e, eq-out f)
-
--- a row as the code makes it, in the numbers that are meant
-pub row-read : (w w′ on : List ℤ) (x y : ℤ) (m n : ℕ) (new : List ℤ) → new ≡ filled (λ v. minZ (getD w v (pos 0)) (x +ℤ getD on v (pos 0))) m w → w ≡ w′ → x ≡ y → m ≡ n → new ≡ filled (λ v. minZ (getD w′ v (pos 0)) (y +ℤ getD on v (pos 0))) n w′
-row-read w w′ on x y m n new e a b c = rw (a, b, c) at e
 
 -- the fact of a place, wanted so, as the code has it
 pub enters-as : (n : ℕ) (near : Grid) (p : Place) (d want : Bool) (k : ℤ) (answer : Bool) (h : Grid) → want ≡ d → k ≡ taken p d .most → Enters n near (taken p d .right) (taken p d .left) k answer h → Enters n near (taken p want .right) (taken p want .left) (taken p want .most) answer h

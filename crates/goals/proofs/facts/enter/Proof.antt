@@ -8,6 +8,7 @@ use denote.Ref.{now}
 use mir.Syntax.{w64}
 use mir.Val.{SFits, toZ, ofZ}
 use mir.Facts.{toZ-ofZ}
+use Rattle.page_meaning.specs.Limits.{mostVertices}
 use Rattle.page_walks.specs.Grid.{row, weight, farN}
 use Rattle.page_walks.specs.Sizes.{Bounded, AllWithin, tabled}
 use Rattle.page_walks.specs.Near.{relax, Triangle}
@@ -32,7 +33,7 @@ index-2-round c = omega (arith, c .pre .0, c .pre .1 .from-is, c .pre .1 .to-is)
 round-is : (c : tie.After-round) → toZ w64 (ofZ w64 (getD (row (now (c .before .args .near)) (c .before .args .to)) (c .before .args .from) (pos 0))) +ℤ toZ w64 (ofZ w64 (c .before .args .k)) ≡ weight (now (c .before .args .near)) (c .before .args .to) (c .before .args .from) +ℤ c .before .args .k
 round-is c =
     let s = c .before in let a = s .args in
-    ap₂ _+ℤ_ (toZ-ofZ {w = w64} (record { sfits = c .round .given }) ∙ read 17 (now (a .near)) (a .to) (a .from) (s .pre .2) (omega (arith, s .pre .0, s .pre .1 .to-is)) (omega (arith, s .pre .0, s .pre .1 .from-is))) (toZ-ofZ {w = w64} (s .fits .k))
+    ap₂ _+ℤ_ (toZ-ofZ {w = w64} (record { sfits = c .round .given }) ∙ read mostVertices (now (a .near)) (a .to) (a .from) (s .pre .2) (omega (arith, s .pre .0, s .pre .1 .to-is)) (omega (arith, s .pre .0, s .pre .1 .from-is))) (toZ-ofZ {w = w64} (s .fits .k))
 
 add-if1 : tie.Need-add-if1
 add-if1 c = subst (SFits w64) (sym (round-is c)) (sum-fits (c .before .args .last) (now (c .before .args .near)) (c .before .pre .3) (c .before .args .from) (c .before .args .to) (c .before .args .k) (c .before .pre .1) (c .before .args .to) (c .before .pre .1 .to-is))

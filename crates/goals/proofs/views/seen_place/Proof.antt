@@ -7,6 +7,7 @@ use denote.Ref.{now}
 use mir.Syntax.{w64}
 use mir.Val.{SFits, toZ, ofZ}
 use mir.Facts.{toZ-ofZ}
+use Rattle.page_meaning.specs.Limits.{mostVertices}
 use Rattle.page_walks.specs.Grid.{row, weight}
 use Rattle.page_walks.proofs.Rows.{read}
 use Rattle.program_tree.specs.Nodes.{placeOf}
@@ -19,12 +20,12 @@ use Rattle.goals.proofs.views.seen_place.Tie as tie
 there-is : (c : tie.After-there) → toZ w64 (ofZ w64 (getD (row (now (c .before .args .near)) (c .before .args .right)) (c .before .args .left) (pos 0))) ≡ weight (now (c .before .args .near)) (c .before .args .right) (c .before .args .left)
 there-is c =
     let s = c .before in let a = s .args in
-    toZ-ofZ {w = w64} (record { sfits = c .there .given }) ∙ read 17 (now (a .near)) (a .right) (a .left) (s .pre .1) (omega (arith, s .pre .0 .few, s .pre .0 .facts true .from-is)) (omega (arith, s .pre .0 .few, s .pre .0 .facts true .to-is))
+    toZ-ofZ {w = w64} (record { sfits = c .there .given }) ∙ read mostVertices (now (a .near)) (a .right) (a .left) (s .pre .1) (omega (arith, s .pre .0 .few, s .pre .0 .facts true .from-is)) (omega (arith, s .pre .0 .few, s .pre .0 .facts true .to-is))
 
 back-is : (c : tie.After-back) → toZ w64 (ofZ w64 (getD (row (now (c .before .before .before .args .near)) (c .before .before .before .args .left)) (c .before .before .before .args .right) (pos 0))) +ℤ toZ w64 (ofZ w64 (c .before .before .before .args .most)) ≡ weight (now (c .before .before .before .args .near)) (c .before .before .before .args .left) (c .before .before .before .args .right) +ℤ c .before .before .before .args .most
 back-is c =
     let s = c .before .before .before in let a = s .args in
-    ap₂ _+ℤ_ (toZ-ofZ {w = w64} (record { sfits = c .back .given }) ∙ read 17 (now (a .near)) (a .left) (a .right) (s .pre .1) (omega (arith, s .pre .0 .few, s .pre .0 .facts true .to-is)) (omega (arith, s .pre .0 .few, s .pre .0 .facts true .from-is))) (toZ-ofZ {w = w64} (s .fits .most))
+    ap₂ _+ℤ_ (toZ-ofZ {w = w64} (record { sfits = c .back .given }) ∙ read mostVertices (now (a .near)) (a .left) (a .right) (s .pre .1) (omega (arith, s .pre .0 .few, s .pre .0 .facts true .to-is)) (omega (arith, s .pre .0 .few, s .pre .0 .facts true .from-is))) (toZ-ofZ {w = w64} (s .fits .most))
 
 mul-there : tie.Need-mul-there
 mul-there c = omega (arith, c .pre .0 .few, c .pre .0 .facts true .from-is)
