@@ -13,7 +13,7 @@ use program_tree::types::Extent;
 use program_tree::types::ROW;
 ghost use Prim.Native.Nat.{ℕ, _+_, _≤_, _<_};
 ghost use mathlib.Core.Path.{_≡_};
-ghost use mathlib.Core.Bool.{Bool};
+ghost use mathlib.Core.Bool.{Bool, false};
 ghost use mathlib.Core.List.{_∷_};
 ghost use lib.ListN.{length};
 ghost use Rattle.page_formulas.specs.Program.{Values};
@@ -42,6 +42,16 @@ fn advance(
     settle(nodes, most, ext, near, waiting, d.count)
 }
 
+// There are none.
+fn shut() -> Opened
+    ensures { λ r. ⌜ r .open ≡ false ⌝ }
+{
+    Opened {
+        open: false,
+        values: [0i64; VERTICES],
+    }
+}
+
 // Are there values that meet the facts, at which instruction i and every goal that waits are as wanted? At a split one operand is
 // wanted, on copies of facts and goals; if that leads nowhere, the other is and the one is not, so that nothing is looked at twice.
 pub fn solve(
@@ -57,13 +67,9 @@ pub fn solve(
     requires { ⌜ Standing (treeOf (now nodes) (now most) ext) (now near) (stackOf (now waiting) n) × (i < ext .count) × (sizeAt (treeOf (now nodes) (now most) ext) i + total (treeOf (now nodes) (now most) ext) (stackOf (now waiting) n) ≤ mostInstructions) × (length (now waiting) ≡ mostInstructions) ⌝ }
     ensures { λ r. ⌜ ((v : Values → ℕ → Bool) → Describes (treeOf (now (nodes .entry)) (now (most .entry)) ext) v → Opens (r .open) (r .values) (Solves (treeOf (now (nodes .entry)) (now (most .entry)) ext) v (now (near .entry)) (goal i want ∷ stackOf (now (waiting .entry)) n))) ⌝ }
 {
-    let values = [0i64; VERTICES];
     let s = advance(nodes, most, ext, near, waiting, n, i, want);
     if s.closed {
-        return Opened {
-            open: false,
-            values,
-        };
+        return shut();
     }
     let count = s.count;
     if count == 0 {
@@ -75,20 +81,12 @@ pub fn solve(
     let h = halves(nodes, goal_at(g));
     let mut facts = *near;
     let mut goals = *waiting;
-    let r = solve(
-        nodes,
-        most,
-        ext,
-        &mut facts,
-        &mut goals,
-        count - 1,
-        h.one,
-        wish,
-    );
+    let rest = count - 1;
+    let r = solve(nodes, most, ext, &mut facts, &mut goals, rest, h.one, wish);
     if r.open {
         return r;
     }
-    let e = demand(nodes, most, ext, near, waiting, count - 1, h.one, !wish);
+    let e = demand(nodes, most, ext, near, waiting, rest, h.one, !wish);
     if e.closed {
         return r;
     }

@@ -18,6 +18,7 @@ use Rattle.tableau.proofs.Splits.{none, on, ended, parts, rest, one-ope
 use Rattle.tableau.proofs.choice.halves.Reads as halves-reads
 use Rattle.tableau.proofs.choice.take.Reads as take-reads
 use Rattle.tableau.proofs.search.advance.Reads as advance-reads
+use Rattle.tableau.proofs.search.shut.Reads as shut-reads
 use Prim.Native.Nat.{ℕ, suc, _+_, _-_, _≤_, _<_}
 use borrow.Fn.Kinds.{In}
 use borrow.Fn.PlainCycle.{Measures, is, falls, and}
@@ -37,7 +38,7 @@ abbrev solve-below : ℕ → In 4 solve-kinds.ps
 solve-below t = and 4 solve-kinds.ps (falls 4 solve-kinds.ps _<_ μ-solve t) solve.Pre
 
 abbrev solve-calls : ℕ → solve-lts.Claims
-solve-calls t = (advance-reads.Asked, advance-reads.Learnt, take-reads.Asked, take-reads.Learnt, goal-want-reads.Asked, goal-want-reads.Learnt, goal-at-reads.Asked, goal-at-reads.Learnt, halves-reads.Asked, halves-reads.Learnt, solve-below t, solve.Post, demand-reads.Asked, demand-reads.Learnt)
+solve-calls t = (advance-reads.Asked, advance-reads.Learnt, shut-reads.Asked, shut-reads.Learnt, take-reads.Asked, take-reads.Learnt, goal-want-reads.Asked, goal-want-reads.Learnt, goal-at-reads.Asked, goal-at-reads.Learnt, halves-reads.Asked, halves-reads.Learnt, solve-below t, solve.Post, demand-reads.Asked, demand-reads.Learnt)
 
 -- ---- what needed no choice led on; a goal was taken out; its operands
 led : (t : ℕ) (c : solve-lts.Else1 (solve-calls t) (solve-at t) solve.Post) → Leads (treeOf (now (c .before .before .before .before .args .nodes)) (now (c .before .before .before .before .args .most)) (c .before .before .before .before .args .ext)) (now (c .before .before .before .before .args .near)) (goal (c .before .before .before .before .args .i) (c .before .before .before .before .args .want) ∷ stackOf (now (c .before .before .before .before .args .waiting)) (c .before .before .before .before .args .n)) (c .before .advance .last .1 .1 .1 .0) (stackOf (c .before .advance .last .1 .1 .1 .1 .0) (c .before .advance .result .count))
@@ -62,10 +63,13 @@ denies t c =
 solve-advance-requires : (t : ℕ) → solve-lts.Need-advance-requires (solve-calls t) (solve-at t) solve.Post
 solve-advance-requires t c κs = c .before .before .pre .1
 
+solve-shut-requires : (t : ℕ) → solve-lts.Need-shut-requires (solve-calls t) (solve-at t) solve.Post
+solve-shut-requires t c κs = search needs
+
 solve-returns : (t : ℕ) → solve-lts.Need-returns (solve-calls t) (solve-at t) solve.Post
 solve-returns t c =
-    let s = c .before .before .before .before in let a = s .args in let t′ = treeOf (now (a .nodes)) (now (a .most)) (a .ext) in let G = goal (a .i) (a .want) ∷ stackOf (now (a .waiting)) (a .n) in let q = c .before .advance in
-    none t′ (now (a .near)) G (q .result .closed) (q .last .1 .1 .1 .0) (stackOf (q .last .1 .1 .1 .1 .0) (q .result .count)) (q .ensures .0) (c .if1 .taken)
+    let s = c .before .before .before .before .before in let a = s .args in let t′ = treeOf (now (a .nodes)) (now (a .most)) (a .ext) in let G = goal (a .i) (a .want) ∷ stackOf (now (a .waiting)) (a .n) in let q = c .before .before .advance in
+    λ v d. subst (λ b. Opens b (c .shut .result .values) (Solves t′ v (now (a .near)) G)) (sym (c .shut .ensures)) (none t′ (now (a .near)) G (q .result .closed) (q .last .1 .1 .1 .0) (stackOf (q .last .1 .1 .1 .1 .0) (q .result .count)) (q .ensures .0) (c .before .if1 .taken) v d)
 
 solve-element-copy-out-values : (t : ℕ) → solve-lts.Need-element-copy-out-values (solve-calls t) (solve-at t) solve.Post
 solve-element-copy-out-values t c = omega arith
@@ -91,8 +95,8 @@ solve-halves-requires t c κs =
     let s = c .before .before .before .before .before .before .before .before .before in let a = s .args in let t′ = treeOf (now (a .nodes)) (now (a .most)) (a .ext) in let G = goal (a .i) (a .want) ∷ stackOf (now (a .waiting)) (a .n) in let q = c .before .before .before .before .before .before .advance in let k = c .before .before .take in let gs = stackOf (k .last .1 .0) (q .result .count - 1) in let w = split t (c .before .before) .standing in let e = c .goal-at .ensures in
     (omega (arith, e, w .waiting .0 .in-tree, w .laid .short), rw e (smaller t′ (w .laid) (goalOf (k .result)) (w .waiting .0) .0))
 
-solve-sub-solve : (t : ℕ) → solve-lts.Need-sub-solve (solve-calls t) (solve-at t) solve.Post
-solve-sub-solve t c = omega (arith, c .before .before .before .before .before .before .before .before .before .if2 .left)
+solve-sub-rest : (t : ℕ) → solve-lts.Need-sub-rest (solve-calls t) (solve-at t) solve.Post
+solve-sub-rest t c = omega (arith, c .before .before .before .before .before .before .before .if2 .left)
 
 solve-solve-requires : (t : ℕ) → solve-lts.Need-solve-requires (solve-calls t) (solve-at t) solve.Post
 solve-solve-requires t c κs =
@@ -103,9 +107,6 @@ solve-returns-3 : (t : ℕ) → solve-lts.Need-returns-3 (solve-calls t) (solve-
 solve-returns-3 t c =
     let s = c .before .before .before .before .before .before .before .before .before .before .before .before .before .before .before .before in let a = s .args in let t′ = treeOf (now (a .nodes)) (now (a .most)) (a .ext) in let G = goal (a .i) (a .want) ∷ stackOf (now (a .waiting)) (a .n) in let q = c .before .before .before .before .before .before .before .before .before .before .before .before .before .advance in let k = c .before .before .before .before .before .before .before .before .before .take in let gs = stackOf (k .last .1 .0) (q .result .count - 1) in let h = c .before .before .before .before .before .before .halves .result in let w = split t (c .before .before .before .before .before .before .before .before .before) in let m = c .before .before .before .before .before .before .before .before .goal-want in let o = halved t (c .before .before .before .before .before .before) in let r = c .before .solve in
     λ v d. subst (λ b. Opens b (r .result .values) (Solves t′ v (now (a .near)) G)) (sym (c .if3 .taken)) (one-open t′ (now (a .near)) G (q .last .1 .1 .1 .0) (goalOf (k .result)) gs w (h .one) (h .other) o (m .result) (m .ensures) v d (r .result .values) (subst (λ b. Opens b (r .result .values) (Solves t′ v (q .last .1 .1 .1 .0) (goal (h .one) (m .result) ∷ gs))) (c .if3 .taken) (r .ensures v d)))
-
-solve-sub-demand : (t : ℕ) → solve-lts.Need-sub-demand (solve-calls t) (solve-at t) solve.Post
-solve-sub-demand t c = omega (arith, c .before .before .before .before .before .before .before .before .before .before .before .before .before .if2 .left)
 
 solve-demand-requires : (t : ℕ) → solve-lts.Need-demand-requires (solve-calls t) (solve-at t) solve.Post
 solve-demand-requires t c κs =
@@ -128,4 +129,4 @@ solve-returns-5 t c =
     λ v d. denied-on t′ (now (a .near)) G (q .last .1 .1 .1 .0) (goalOf (k .result)) gs w (h .one) (h .other) o (m .result) (m .ensures) v d (subst (λ b. Opens b (r .result .values) (Solves t′ v (q .last .1 .1 .1 .0) (goal (h .one) (m .result) ∷ gs))) (c .before .before .before .before .before .before .before .if3 .left) (r .ensures v d)) (u .last .1 .1 .1 .0) (stackOf (u .last .1 .1 .1 .1 .0) (u .result .count)) (denies t (c .before .before .before)) (c .solve2 .result .«open») (c .solve2 .result .values) (c .solve2 .ensures v d)
 
 pub +solve-spec : {M : Type 1} → statement M
-+solve-spec = close μ-solve λ t. solve-lts.spec (solve-calls t) (solve-at t) solve.Post (solve-advance-requires t) (solve-returns t) (solve-element-copy-out-values t) (solve-returns-2 t) (solve-take-requires t) (solve-goal-want-requires t) (solve-goal-at-requires t) (solve-halves-requires t) (solve-sub-solve t) (solve-solve-requires t) (solve-returns-3 t) (solve-sub-demand t) (solve-demand-requires t) (solve-returns-4 t) (solve-solve-requires-2 t) (solve-returns-5 t)
++solve-spec = close μ-solve λ t. solve-lts.spec (solve-calls t) (solve-at t) solve.Post (solve-advance-requires t) (solve-shut-requires t) (solve-returns t) (solve-element-copy-out-values t) (solve-returns-2 t) (solve-take-requires t) (solve-goal-want-requires t) (solve-goal-at-requires t) (solve-halves-requires t) (solve-sub-rest t) (solve-solve-requires t) (solve-returns-3 t) (solve-demand-requires t) (solve-returns-4 t) (solve-solve-requires-2 t) (solve-returns-5 t)
