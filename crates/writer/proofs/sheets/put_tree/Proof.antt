@@ -2,7 +2,7 @@ use borrow.Author.Needs.{needs}
 use Rattle.question.specs.Held.{questionOf}
 use Rattle.page_formulas.specs.Formulas.{formulas}
 use Rattle.formula.specs.Able.{formulaAt}
-use Rattle.writer.proofs.Finds.{proper-at}
+use Rattle.verdicts.proofs.Finds.{proper-at}
 use Rattle.writer.proofs.sheets.put_tree.Statement.{statement}
 use Rattle.writer.proofs.sheets.put_tree.Tie as tie
 
