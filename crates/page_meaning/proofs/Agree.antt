@@ -4,8 +4,8 @@ use mathlib.Core.Logic.{_↔_}
 use mathlib.Core.List.{List, [], _∷_}
 use Rattle.page_meaning.specs.Contents.{Question, Change, insert, delete, modify, Contents, Valid, Family, IrrelevantIn, ComputableIn, Irrelevant, Computable}
 use Rattle.page_meaning.specs.WellFormed.{ChangeOk, WellFormed}
-use Rattle.page_meaning.specs.Trouble.{Formula, one, two, All, Met, AllFail, irrelevance, computability}
-use Rattle.page_meaning.specs.Witness.{firstOf, secondOf, Small}
+use Rattle.page_meaning.specs.Trouble.{Formula, one, two, All, Met, AllFail, irrelevance, computability, firstOf, secondOf}
+use Rattle.page_meaning.specs.Witness.{Small}
 use Rattle.page_meaning.specs.Exactly.{Ample, Relevant, Uncomputable}
 use Rattle.page_meaning.proofs.Quiet.{unchanged, alike}
 use Rattle.page_meaning.proofs.Breaks.{Exact, witness-valid, witness-small, empty-valid, empty-small}

@@ -9,9 +9,9 @@ use lib.Dec.{T}
 use Rattle.page_meaning.specs.Condition.{Row}
 use Rattle.page_meaning.specs.Contents.{Question, Change, insert, delete, modify, Values, _∈_, each, added, afterBy, look, Contents, Valid, row, Shows, Listed, Same}
 use Rattle.page_meaning.specs.WellFormed.{ChangeOk}
-use Rattle.page_meaning.specs.Trouble.{Formula, All, Met, AllFail, irrelevance, computability}
+use Rattle.page_meaning.specs.Trouble.{Formula, All, Met, AllFail, irrelevance, computability, firstOf, secondOf}
 use Rattle.page_meaning.proofs.Words.{C}
-use Rattle.page_meaning.specs.Witness.{cut, contentsOf, hereOf, witness, empty, firstOf, secondOf, Small}
+use Rattle.page_meaning.specs.Witness.{cut, contentsOf, hereOf, witness, empty, Small}
 use Rattle.page_meaning.proofs.Tables.{cut-values, cut-fits, alone-fit, alone-joined, alone-only, alone-small, none-fit, none-small, only}
 use Rattle.page_meaning.proofs.Fates.{Then}
 use Rattle.page_meaning.proofs.After.{fateOf, Among, listed-after}

@@ -6,7 +6,8 @@ use mathlib.Core.List.{List, [], _∷_}
 use lib.IntN.{_+ℤ_}
 use lib.Dec.{T}
 use Rattle.page_meaning.specs.Condition.{Condition, Row, meets, holds, unequal}
-use Rattle.page_meaning.specs.Contents.{Question, Change, Mode, keep, become, shift, Values, Table, look, columns, fits, inRange, newValue, part}
+use Rattle.page_meaning.specs.Contents.{Question, Change, Mode, keep, become, shift, Values, Table, look, columns, fits, inRange, newValue, part, Contents}
+use Rattle.page_meaning.specs.Witness.{witness, empty}
 use Rattle.page_meaning.specs.Claims.{Line, single, double, modeAt, kept, Reading, readParts, formulasBy}
 
 -- FORMAT 5.1: a test of one full row, or of two that have the same values in the visible columns
@@ -66,3 +67,15 @@ module _ (q : Question) where
   -- FORMAT 5.1: every formula is false for all rows in range
   abbrev pub AllFail : List Formula → Type 0
   AllFail l = All (λ φ. ¬ Met φ) l
+
+-- ---- what its rows show
+
+-- the contents that rows which meet a formula stand for, and those that they are set against for asked 2
+abbrev pub firstOf : (q : Question) (ch : Change) (φ : Formula) → Met q φ → Contents
+firstOf q ch (one f) m = witness q ch (m .0)
+firstOf q ch (two f) m = witness q ch (m .0)
+
+-- the second row's; all empty where the formula has one row only
+abbrev pub secondOf : (q : Question) (ch : Change) (φ : Formula) → Met q φ → Contents
+secondOf q ch (one f) m = empty q
+secondOf q ch (two f) m = witness q ch (m .1)

@@ -3,7 +3,6 @@ use Prim.Native.Nat.{_≤_}
 use mathlib.Core.List.{List, [], _∷_}
 use lib.ListN.{length, take, drop}
 use Rattle.page_meaning.specs.Contents.{Question, Change, insert, delete, modify, Values, Table, first, Contents, Full}
-use Rattle.page_meaning.specs.Trouble.{Formula, one, two, Met}
 
 -- values of every column, as a full row
 unfoldable pub cut : Question → Values → Full
@@ -36,16 +35,6 @@ witness q ch u = contentsOf q (hereOf ch (cut q u .here)) (cut q u)
 -- no row in any table
 abbrev pub empty : Question → Contents
 empty q = record { front = none (q .front); changed = []; back = none (q .back) }
-
--- the contents that rows which meet a formula stand for, and those that they are set against for asked 2
-abbrev pub firstOf : (q : Question) (ch : Change) (φ : Formula) → Met q φ → Contents
-firstOf q ch (one f) m = witness q ch (m .0)
-firstOf q ch (two f) m = witness q ch (m .0)
-
--- the second row's; all empty where the formula has one row only
-abbrev pub secondOf : (q : Question) (ch : Change) (φ : Formula) → Met q φ → Contents
-secondOf q ch (one f) m = empty q
-secondOf q ch (two f) m = witness q ch (m .1)
 
 -- at most one row in each of some tables
 abbrev pub AtMostOne : List (List Values) → Type 0

@@ -11,7 +11,8 @@ use lib.Dec.{T, leb, le→leb}
 use lib.IntN.{pos}
 use lib.Signed.{_<ℤ_, ltZ}
 use Rattle.page_walks.specs.Grid.{Grid, weight}
-use Rattle.page_walks.specs.Search.{search, Shortest, dist}
+use Rattle.page_walks.specs.Search.{search, dist}
+use Rattle.page_walks.specs.Shortest.{Shortest}
 use Rattle.page_walks.specs.Walk.{closed}
 use Rattle.page_walks.proofs.Searches.{search-is, dist-greatest}
 use Rattle.page_formulas.specs.Formulas.{Formula}

@@ -12,7 +12,8 @@ use lib.Signed.{_≤ℤ_, _<ℤ_}
 use Rattle.page_numbers.proofs.Bridge.{+law, ints}
 use Rattle.page_walks.specs.Grid.{Grid, weight, tighten}
 use Rattle.page_walks.specs.Near.{Weights, Least}
-use Rattle.page_walks.specs.Search.{search, Answer, dist}
+use Rattle.page_walks.specs.Search.{search, dist}
+use Rattle.page_walks.specs.Shortest.{Answer}
 use Rattle.page_walks.specs.Walk.{Sat}
 use Rattle.page_walks.proofs.Grids.{tighten-le, tighten-new}
 use Rattle.page_walks.proofs.Nears.{least-sat, relax-least, relaxed-old, relaxed-fact, relaxed-both, fact-round}

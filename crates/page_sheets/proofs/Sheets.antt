@@ -10,9 +10,8 @@ use lib.Dec.{eqb}
 use Rattle.page_meaning.specs.Contents.{Values, Question}
 use Rattle.page_meaning.specs.Exactly.{Relevant, Uncomputable}
 use Rattle.page_meaning.specs.Limits.{mostVertices}
-use Rattle.page_meaning.specs.Trouble.{one, two, irrelevance, computability, Met, AllFail}
+use Rattle.page_meaning.specs.Trouble.{one, two, irrelevance, computability, Met, AllFail, firstOf, secondOf}
 use Rattle.page_meaning.specs.WellFormed.{WellFormed}
-use Rattle.page_meaning.specs.Witness.{firstOf, secondOf}
 use Rattle.page_meaning.proofs.Agree.{relevant, uncomputable, irrelevant-agrees, computable-agrees}
 use Rattle.page_formulas.specs.Formulas.{Formula, formulas, rowOf1, rowOf2, noFormula}
 use Rattle.page_formulas.specs.Program.{truth}

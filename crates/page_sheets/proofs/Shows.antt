@@ -5,8 +5,7 @@ use mathlib.Core.Bool.{true, false}
 use mathlib.Core.List.{List}
 use lib.ListN.{getD}
 use Rattle.page_meaning.specs.Contents.{Question}
-use Rattle.page_meaning.specs.Trouble.{one, two, Met, AllFail}
-use Rattle.page_meaning.specs.Witness.{firstOf, secondOf}
+use Rattle.page_meaning.specs.Trouble.{one, two, Met, AllFail, firstOf, secondOf}
 use Rattle.page_formulas.specs.Formulas.{Formula, noFormula}
 use Rattle.page_formulas.proofs.Agreement.{Agrees, AgreeAll}
 use Rattle.page_formulas.proofs.Stands.{there1, there2}

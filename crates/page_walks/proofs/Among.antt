@@ -13,7 +13,8 @@ use Rattle.page_numbers.proofs.Bridge.{ints}
 use Rattle.page_walks.specs.Walk.{Below, closed}
 use Rattle.page_walks.specs.Grid.{far}
 use Rattle.page_walks.specs.Sizes.{least-weight}
-use Rattle.page_walks.specs.Search.{search, Shortest, Answer, dist}
+use Rattle.page_walks.specs.Search.{search, dist}
+use Rattle.page_walks.specs.Shortest.{Shortest, Answer}
 use Rattle.page_walks.proofs.Walks.{sound}
 use Rattle.page_walks.proofs.Searches.{search-is, shortest-one, dist-greatest}
 use Rattle.page_walks.proofs.Grids.{Real, negative-real}

@@ -12,7 +12,7 @@ use Rattle.page_numbers.proofs.Bridge.{ints, +law}
 use Rattle.page_walks.proofs.Pigeon.{below-append, below-split, has-split, Has, Dup, pigeon}
 use Rattle.page_walks.proofs.Walks.{from-append, sat-from}
 use Rattle.page_walks.specs.Walk.{Below, from, Sat}
-use Rattle.page_walks.specs.Search.{NoNeg, Greatest}
+use Rattle.page_walks.specs.Shortest.{NoNeg, Greatest}
 
 has-last : (u : ℕ) (p : List ℕ) (t : ℕ) → Has u (p ++ t ∷ []) → Has u p ⊎ (u ≡ t)
 has-last u [] t (inl e) = inr e

@@ -14,7 +14,8 @@ use lib.Signed.{_≤ℤ_, _<ℤ_, ltZ, ltZ-yes, ≤ℤ-refl}
 use Rattle.page_numbers.proofs.Bridge.{ints, +law, min-spec, not-less}
 use Rattle.page_numbers.specs.Numbers.{minZ}
 use Rattle.page_walks.specs.Walk.{Below, from, closed}
-use Rattle.page_walks.specs.Search.{least, first, Lex, NoNeg, Greatest, best, test, greedy, start, fewest, walk, search, Shortest, Answer, dist}
+use Rattle.page_walks.specs.Search.{least, first, best, test, greedy, start, fewest, walk, search, dist}
+use Rattle.page_walks.specs.Shortest.{Lex, NoNeg, Greatest, Shortest, Answer}
 use Rattle.page_walks.proofs.Complete.{Least, complete}
 
 pub least-le : (f : ℕ → ℤ) (n i : ℕ) → i ≤ n → least f n ≤ℤ f i

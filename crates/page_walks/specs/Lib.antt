@@ -2,4 +2,5 @@ pub mod Walk
 pub mod Grid
 pub mod Sizes
 pub mod Search
+pub mod Shortest
 pub mod Near

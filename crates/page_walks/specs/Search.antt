@@ -1,16 +1,12 @@
 -- FORMAT 7.1 and 7.2: the search for the negative closed walk with the fewest edges, and of those with the least list; the greatest solution.
-use mathlib.Core.Path.{_≡_}
-use mathlib.Core.Logic.{_⊎_}
 use mathlib.Core.Bool.{Bool, cond}
 use mathlib.Core.Option.{Option, none, some}
 use mathlib.Core.List.{List, [], _∷_}
-use Prim.Native.Nat.{ℕ, zero, suc, _-_, _≤_, _<_}
-use lib.ListN.{length}
+use Prim.Native.Nat.{ℕ, zero, suc, _-_}
 use lib.IntN.{ℤ, pos, _+ℤ_}
 use lib.Dec.{ltb}
-use lib.Signed.{_≤ℤ_, _<ℤ_, ltZ}
+use lib.Signed.{ltZ}
 use Rattle.page_numbers.specs.Numbers.{minZ}
-use Rattle.page_walks.specs.Walk.{Below, closed, Sat}
 
 -- the least of f 0 .. f n
 unfoldable pub least : (ℕ → ℤ) → ℕ → ℤ
@@ -21,22 +17,6 @@ least f (suc n) = minZ (least f n) (f (suc n))
 unfoldable pub first : (ℕ → Bool) → ℕ → ℕ
 first f zero = zero
 first f (suc n) = let r = suc (first (λ i. f (suc i)) n) in cond (f zero) zero r
-
--- a list before another, or the same
-abbrev pub Lex : List ℕ → List ℕ → Type 0
-Lex [] q = Unit {0}
-Lex (x ∷ p) [] = ⊥
-Lex (x ∷ p) (y ∷ q) = (x < y) ⊎ ((x ≡ y) × Lex p q)
-
--- no closed walk of 1 .. N vertices is negative
-abbrev pub NoNeg : (ℕ → ℕ → ℤ) → ℕ → Type 0
-NoNeg w N = (c : List ℕ) → 0 < length c → length c ≤ N → Below N c → pos 0 ≤ℤ closed w c
-
--- x is 0 at vertex 0, meets every fact, and is the greatest that does, at all vertices at once
-pub record Greatest (w : ℕ → ℕ → ℤ) (N : ℕ) (x : ℕ → ℤ) : Type 0 where
-  pub at-zero : x 0 ≡ pos 0
-  pub meets : Sat w N x
-  pub most : (y : ℕ → ℤ) → y 0 ≡ pos 0 → Sat w N y → (v : ℕ) → v < N → y v ≤ℤ x v
 
 -- n + 1 vertices
 module _ (w : ℕ → ℕ → ℤ) (n : ℕ) where
@@ -69,20 +49,6 @@ module _ (w : ℕ → ℕ → ℤ) (n : ℕ) where
   -- FORMAT 7.1: the shortest and then least negative closed walk, if there is one
   unfoldable pub search : Option (List ℕ)
   search = cond (ltb fewest (suc n)) (some (walk fewest)) none
-
-  -- what the search is held to, said without it
-  pub record Shortest (c : List ℕ) : Type 0 where
-    pub some-vertex : 0 < length c
-    pub short : length c ≤ suc n
-    pub below : Below (suc n) c
-    pub negative : closed w c <ℤ pos 0
-    pub no-shorter : (q : List ℕ) → 0 < length q → Below (suc n) q → closed w q <ℤ pos 0 → length c ≤ length q
-    pub lex-least : (q : List ℕ) → length q ≡ length c → Below (suc n) q → closed w q <ℤ pos 0 → Lex c q
-
-  -- a found list is the shortest, then least; and where none is found there is none
-  abbrev pub Answer : Option (List ℕ) → Type 0
-  Answer (some c) = Shortest c
-  Answer none = NoNeg w (suc n)
 
   -- the least sums of the walks with 1 .. n edges from 0; at 0 the walk with none
   unfoldable pub dist : ℕ → ℤ
