@@ -8,6 +8,7 @@ pub mod Greatest
 pub mod Findings
 pub mod HandsOn
 pub mod SameFacts
+pub mod Spreads
 pub mod Fasts
 pub mod Steps
 pub mod FastAmong

@@ -8,7 +8,7 @@ use Rattle.page_numbers.specs.Bytes.{int32, le32, bytes4}
 use Rattle.page_numbers.specs.Numbers.{minZ}
 use Rattle.page_meaning.proofs.Truth.{and-l, and-r}
 use Rattle.page_walks.specs.Grid.{tighten, blank}
-use Rattle.page_walks.specs.Near.{relax, nearBlank}
+use Rattle.page_walks.specs.Near.{relax}
 use Rattle.page_walks.specs.Search as S
 use Rattle.page_formulas.specs.Compile.{compile}
 use Rattle.page_formulas.specs.Formulas.{among, after, hiddenRanges, boundedAll, differsOver, tabulate}
@@ -25,7 +25,7 @@ use Rattle.page_sheets.specs.Trees.{bytesAll}
 use Rattle.page_sheets.specs.Twelve.{Claim, Case, bytesIn, numbers, sheetIn, twelve}
 use Rattle.page_twelve.specs.Written.{Written, TwelveWritten}
 use Rattle.page_twelve.proofs.Sheets.{tableTrees, tableSheet, sheet-tabled}
-use Rattle.page_twelve.proofs.Tables.{rows, table, tableConfineAll, tableFast, tableTree}
+use Rattle.page_twelve.proofs.Tables.{rows, table, tableFast, tableTree}
 
 -- ---- the test
 
@@ -50,7 +50,7 @@ testAll [] = true
 testAll (c ∷ cs) = test 1 (c .irrelevant) (readOf (c .question)) && test 2 (c .computable) (readOf (c .question)) && testAll cs
 
 tested : T (testAll twelve)
-unfolding int32 le32 bytes4 minZ tighten blank relax nearBlank S.least S.first S.best S.test S.greedy S.start S.fewest S.walk S.search compile among after hiddenRanges boundedAll differsOver tabulate run3 places total tablesOf visibleFrom questionFrom many byte int columnAt comparisonAt tokenAt conditionAt rowAt insertAt deleteAt modeAt modifyAt ending fromChange fromCondition fromVisible fromColumns fromWidths fromChanged fromKind fromTables fromVersion readOf confineAll bytesOfRow bytesOf bytesAll bytesIn numbers rows table tableConfineAll tableFast tableTree tableTrees tableSheet twelve testAll
+unfolding int32 le32 bytes4 minZ tighten blank relax S.least S.first S.best S.test S.greedy S.start S.fewest S.walk S.search compile among after hiddenRanges boundedAll differsOver tabulate run3 places total tablesOf visibleFrom questionFrom many byte int columnAt comparisonAt tokenAt conditionAt rowAt insertAt deleteAt modeAt modifyAt ending fromChange fromCondition fromVisible fromColumns fromWidths fromChanged fromKind fromTables fromVersion readOf confineAll bytesOfRow bytesOf bytesAll bytesIn numbers rows table tableFast tableTree tableTrees tableSheet twelve testAll
 tested = tt
 
 -- ---- from the test to the sheet

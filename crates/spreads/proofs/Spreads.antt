@@ -1,32 +1,31 @@
--- The closure of the ranges in closed form: it is one, and the values that meet it are those in range.
-use Prim.Native.Nat.{ℕ, zero, suc, _+_, _≤_, _<_}
-use mathlib.Core.Path.{_≡_, refl, sym, ap, _∙_, subst}
+-- The closure of the ranges in closed form, from the code's arrays: the laws of `Spreads` in page_sheets hold of it.
+use Prim.Native.Nat.{ℕ, zero, suc, _≤_, _<_}
+use mathlib.Core.Path.{_≡_, refl, _∙_, subst}
 use mathlib.Core.Logic.{_≢_}
-use mathlib.Core.Bool.{Bool, true, false, cond, true≢false}
+use mathlib.Core.Bool.{Bool, true, false, cond}
 use mathlib.Core.Option.{Option, none, some}
-use mathlib.Core.List.{List, [], _∷_}
+use mathlib.Core.List.{List}
 use native.Mathlib.Omega.{arith}
-use native.Mathlib.Decide.{ℕ-discrete}
 use lib.Dec.{eqb, eqb→eq, eqb-refl}
-use lib.ListN.{length, getD}
-use lib.IntN.{ℤ, pos, _+ℤ_, _-ℤ_}
+use lib.ListN.{getD}
+use lib.IntN.{ℤ, pos, _-ℤ_}
 use lib.Signed.{_≤ℤ_}
 use mir.Syntax.{w64}
 use mir.Val.{SFits}
 use Rattle.page_numbers.specs.Numbers.{up, dn}
-use Rattle.page_numbers.proofs.Bridge.{ints, +law}
+use Rattle.page_numbers.proofs.Bridge.{ints}
 use Rattle.page_numbers.proofs.Machine.{machine, diff}
 use Rattle.page_meaning.specs.Contents.{Range}
 use Rattle.page_walks.specs.Grid.{Grid, weight, far}
-use Rattle.page_walks.specs.Near.{Least, Triangle}
+use Rattle.page_walks.specs.Near.{Least}
 use Rattle.page_walks.specs.Walk.{Sat}
 use Rattle.page_formulas.specs.Program.{Values}
-use Rattle.page_formulas.specs.Vertices.{Ranges, Within, InRange, isSome}
+use Rattle.page_formulas.specs.Vertices.{Ranges, InRange, isSome}
 use Rattle.page_formulas.specs.Proper.{billion}
 use Rattle.page_sheets.proofs.Fit.{to-true, to-false}
 use Rattle.page_sheets.proofs.SameFacts.{OfRanges}
 use Rattle.page_sheets.proofs.Settles.{settle}
-use Rattle.program.proofs.Lends.{flagged}
+use Rattle.page_sheets.proofs.Spreads.{Spread, EndsAt, EndsOf, spread-most, spread-least, spread-inside, spread-settled, spread-ranges}
 use Rattle.program.specs.Compiled.{Ranging, Ranged}
 use Rattle.spreads.specs.Spread.{endOf, spread}
 
@@ -83,110 +82,32 @@ module _ (count : ℕ) (flags : List Bool) (lo hi : List ℤ) (r : Ranged count 
   pub spread-other : (u v : ℕ) → u ≢ v → spread flags lo hi u v ≡ high v -ℤ low u
   spread-other u v f = rw (to-false (eqb u v) (λ t. f (eqb→eq u v t)))
 
-  -- never more than the ends are apart
-  spread-most : (u v : ℕ) → u < count → v < count → spread flags lo hi u v ≤ℤ (high v -ℤ low u)
-  spread-most u v hu hv = go (ℕ-discrete u v)
-    where
-      go : Dec (u ≡ v) → spread flags lo hi u v ≤ℤ (high v -ℤ low u)
-      go (yes e) = omega (ints, spread-same u v e, order v hv, ap (λ m. up (low m)) e, ap (λ m. dn (low m)) e, diff (high v) (low u))
-      go (no e) = omega (ints, spread-other u v e)
-
   module _ (near : Grid) (is : (u v : ℕ) → u < count → v < count → weight near u v ≡ spread flags lo hi u v) where
-    triangle : Triangle count (weight near)
-    triangle u v x hu hv hx = go (ℕ-discrete u v) (ℕ-discrete v x)
-      where
-        go : Dec (u ≡ v) → Dec (v ≡ x) → weight near u x ≤ℤ (weight near u v +ℤ weight near v x)
-        go (yes e) d = omega (ints, is u v hu hv, spread-same u v e, ap (λ m. weight near m x) e, +law (weight near u v) (weight near v x))
-        go (no e) (yes d) = omega (ints, is v x hv hx, spread-same v x d, ap (λ m. weight near u m) d, +law (weight near u v) (weight near v x))
-        go (no e) (no d) = omega (ints, is u x hu hx, spread-most u x hu hx, is u v hu hv, spread-other u v e, is v x hv hx, spread-other v x d, order v hv, diff (high x) (low u), diff (high v) (low u), diff (high x) (low v), +law (weight near u v) (weight near v x))
+    begun : Spread count low high (weight near)
+    begun = record { ordered = order; same = λ u v hu hv e. is u v hu hv ∙ spread-same u v e; other = λ u v hu hv f. is u v hu hv ∙ spread-other u v f }
 
     pub begun-least : Least count (weight near)
-    begun-least = record { itself = λ u hu. is u u hu hu ∙ spread-same u u refl; triangle = triangle }
+    begun-least = spread-least count low high (weight near) begun
 
     -- no entry is above a missing edge's weight
     pub begun-far : (u v : ℕ) → u < count → v < count → weight near u v ≤ℤ far
-    begun-far u v hu hv = let a = small-low u hu in let b = small-high v hv in omega (ints, is u v hu hv, spread-most u v hu hv, a .0, a .1, b .0, b .1, diff (high v) (low u))
-
-    -- ---- values that meet it
-
-    between : (x : Values) → x 0 ≡ pos 0 → Sat (weight near) count x → (v : ℕ) → v < count → (low v ≤ℤ x v) × (x v ≤ℤ high v)
-    unfolding Sat
-    between x z s zero h = (omega (ints, z), omega (ints, z))
-    between x z s (suc v) h = (
-      omega (ints, z, s (suc v) 0 h (r .some-vertex), is (suc v) 0 h (r .some-vertex), spread-most (suc v) 0 h (r .some-vertex), diff (pos 0) (low (suc v)), +law (x (suc v)) (weight near (suc v) 0)),
-      omega (ints, z, s 0 (suc v) (r .some-vertex) h, is 0 (suc v) (r .some-vertex) h, spread-most 0 (suc v) (r .some-vertex) h, diff (high (suc v)) (pos 0), +law (x 0) (weight near 0 (suc v))),
-    )
-
-    meets : (x : Values) → ((v : ℕ) → v < count → (low v ≤ℤ x v) × (x v ≤ℤ high v)) → Sat (weight near) count x
-    unfolding Sat
-    meets x b u v hu hv = go (ℕ-discrete u v)
-      where
-        go : Dec (u ≡ v) → x v ≤ℤ (x u +ℤ weight near u v)
-        go (yes e) = omega (ints, is u v hu hv, spread-same u v e, ap (λ m. up (x m)) e, ap (λ m. dn (x m)) e, +law (x u) (weight near u v))
-        go (no e) = omega (ints, is u v hu hv, spread-other u v e, b u hu .0, b v hv .1, diff (high v) (low u), +law (x u) (weight near u v))
+    begun-far u v hu hv = let a = small-low u hu in let b = small-high v hv in omega (ints, spread-most count low high (weight near) begun u v hu hv, a .0, a .1, b .0, b .1, diff (high v) (low u))
 
     -- ---- and the ranges
 
     module _ (rs : Ranges) (g : Ranging rs count flags lo hi) where
-      within-of : (x : Values) (s : ℕ) (ts : Ranges) → ((k : ℕ) (t : Range) → getD ts k none ≡ some t → (t .lo ≤ℤ x (s + k)) × (x (s + k) ≤ℤ t .hi)) → Within x s ts
-      within-of x s [] f = tt
-      within-of x s (none ∷ ts) f = within-of x (suc s) ts (λ k t e. rw (next k) (f (suc k) t e))
+      ends : EndsOf rs low high
+      ends = record { at-zero = (refl, refl); at = λ k. go k (getD rs k none) refl (getD flags (suc k) false) (g .spans .shows .agree (suc k)) }
         where
-          next : (k : ℕ) → suc s + k ≡ s + suc k
-          next k = omega arith
-      within-of x s (some t ∷ ts) f =
-          let i : s + 0 ≡ s = omega arith in let h = f 0 t refl in
-          (rw i at (h .0), rw i at (h .1), within-of x (suc s) ts (λ k t e. rw (next k) (f (suc k) t e)))
-        where
-          next : (k : ℕ) → suc s + k ≡ s + suc k
-          next k = omega arith
-
-      within-at : (x : Values) (s : ℕ) (ts : Ranges) → Within x s ts → (k i : ℕ) (t : Range) → i ≡ s + k → getD ts k none ≡ some t → (t .lo ≤ℤ x i) × (x i ≤ℤ t .hi)
-      within-at x s [] w k i t d e = let z : _≡_ {A = ℕ} 0 1 = cc in absurd (omega arith)
-      within-at x s (none ∷ ts) w zero i t d e = let z : _≡_ {A = ℕ} 0 1 = cc in absurd (omega arith)
-      within-at x s (none ∷ ts) w (suc k) i t d e = within-at x (suc s) ts w k i t (omega arith) e
-      within-at x s (some u ∷ ts) w zero i t d e = let f : i ≡ s = omega arith in let q : u ≡ t = cc in rw (f, sym q) (w .0, w .1)
-      within-at x s (some u ∷ ts) w (suc k) i t d e = within-at x (suc s) ts (w .2) k i t (omega arith) e
-
-      flag-of : (k : ℕ) (t : Range) → getD rs k none ≡ some t → getD flags (suc k) false ≡ true
-      flag-of k t e = g .spans .shows .agree (suc k) ∙ ap isSome e
-
-      below : (k : ℕ) (t : Range) → getD rs k none ≡ some t → suc k < count
-      below k t e = omega (arith, g .count-is, inside rs k t e)
-        where
-          inside : (ts : Ranges) (k : ℕ) (t : Range) → getD ts k none ≡ some t → k < length ts
-          inside [] k t e = let z : _≡_ {A = ℕ} 0 1 = cc in absurd (omega arith)
-          inside (o ∷ ts) zero t e = omega arith
-          inside (o ∷ ts) (suc k) t e = omega (arith, inside ts k t e)
-
-      ends-of : (k : ℕ) (t : Range) → getD rs k none ≡ some t → (low (suc k) ≡ t .lo) × (high (suc k) ≡ t .hi)
-      ends-of k t e = rw (flag-of k t e) (g .spans .lows k t e, g .spans .highs k t e)
+          go : (k : ℕ) (o : Option Range) → getD rs k none ≡ o → (b : Bool) → b ≡ isSome (getD rs k none) → EndsAt o (cond b (getD lo (suc k) (pos 0)) (pos 0)) (cond b (getD hi (suc k) (pos 0)) (pos 0))
+          go k none e b f = rw (f, e) (refl, refl)
+          go k (some t) e b f = rw (f, e) (g .spans .lows k t e, g .spans .highs k t e)
 
       pub sat-range : (x : Values) → x 0 ≡ pos 0 → Sat (weight near) count x → InRange rs x
-      sat-range x z s = record {
-        at-zero = z;
-        within = within-of x 1 rs (λ k t e. let b = between x z s (suc k) (below k t e) in let o = ends-of k t e in rw (one k) (omega (ints, b .0, o .0), omega (ints, b .1, o .1)));
-      }
-        where
-          one : (k : ℕ) → 1 + k ≡ suc k
-          one k = omega arith
+      sat-range = spread-inside count low high (weight near) begun rs ends (omega (arith, g .count-is))
 
       pub range-sat : (x : Values) → InRange rs x → Sat (weight near) count (settle rs x)
-      range-sat x h = meets (settle rs x) (λ v hv. at v)
-        where
-          at : (v : ℕ) → (low v ≤ℤ settle rs x v) × (settle rs x v ≤ℤ high v)
-          at zero = (omega (ints, h .at-zero), omega (ints, h .at-zero))
-          at (suc k) = go (getD rs k none) refl (getD flags (suc k) false) refl
-            where
-              go : (o : Option Range) → getD rs k none ≡ o → (b : Bool) → getD flags (suc k) false ≡ b → (cond b (getD lo (suc k) (pos 0)) (pos 0) ≤ℤ cond (isSome o) (x (suc k)) (pos 0)) × (cond (isSome o) (x (suc k)) (pos 0) ≤ℤ cond b (getD hi (suc k) (pos 0)) (pos 0))
-              go (some t) e true f = let w = within-at x 1 rs (h .within) k (suc k) t (omega arith) e in (omega (ints, w .0, g .spans .lows k t e), omega (ints, w .1, g .spans .highs k t e))
-              go (some t) e false f = let z : _≡_ {A = ℕ} 0 1 = absurd (true≢false (sym (flag-of k t e) ∙ f)) in absurd (omega arith)
-              go none e true f = let p = flagged rs flags lo hi (g .spans) k f in let z : _≡_ {A = ℕ} 0 1 = cc in absurd (omega arith)
-              go none e false f = (omega ints, omega ints)
+      range-sat = spread-settled count low high (weight near) begun rs ends
 
       pub begun-ranges : OfRanges rs (weight near)
-      begun-ranges = record {
-        least = subst (λ m. Least m (weight near)) (g .count-is) begun-least;
-        inside = λ x z s. sat-range x z (subst (λ m. Sat (weight near) m x) (sym (g .count-is)) s);
-        settled = λ x h. subst (λ m. Sat (weight near) m (settle rs x)) (g .count-is) (range-sat x h);
-      }
+      begun-ranges = spread-ranges rs low high (weight near) (subst (λ m. Spread m low high (weight near)) (g .count-is) begun) ends
