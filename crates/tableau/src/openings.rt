@@ -2,8 +2,9 @@
 use crate::search::solve;
 use crate::types::Opened;
 use limits::INSTRUCTIONS;
+use limits::PLACES;
 use limits::VERTICES;
-use program::types::Formula;
+use program::types::Outline;
 use program_tree::nodes::lay;
 use program_tree::types::Extent;
 use program_tree::types::ROW;
@@ -12,9 +13,9 @@ ghost use Prim.Native.Nat.{suc};
 ghost use Rattle.page_meaning.specs.Limits.{mostVertices};
 ghost use Rattle.page_walks.specs.Sizes.{Sized};
 ghost use Rattle.page_formulas.specs.Program.{Program};
-ghost use Rattle.page_formulas.specs.Formulas as written;
+ghost use Rattle.page_formulas.specs.Formulas.{Formula};
 ghost use Rattle.page_formulas.specs.Proper.{Proper};
-ghost use Rattle.program.specs.Compiled.{Compiled, Fine};
+ghost use Rattle.program.specs.Compiled.{Compiled, Fine, formulaOf};
 ghost use Rattle.program_tree.specs.Nodes.{treeOf, Tells};
 ghost use Rattle.goals.specs.Closed.{Tight};
 ghost use Rattle.goals.specs.Goals.{TrueAt, TrueUnder, Opens};
@@ -33,31 +34,28 @@ pub fn opens_under(
     solve(nodes, most, ext, near, &mut waiting, 0, ext.count - 1, true)
 }
 
-// Of a compiled formula, under the facts of its ranges.
-pub fn formula_opens(f: Formula) -> Opened
-    requires { ⌜ Fine f ⌝ }
-    ensures { λ r. ⌜ ((F : written.Formula) → Compiled f F → Proper F → Opens (r .open) (r .values) (TrueAt F)) ⌝ }
+// Of a compiled formula, its program lent, under the facts of its ranges.
+pub fn formula_opens<'a>(
+    kinds: &'a [u8; INSTRUCTIONS],
+    left: &'a [u8; PLACES],
+    right: &'a [u8; PLACES],
+    most: &'a [i64; PLACES],
+    o: Outline,
+) -> Opened
+    requires { ⌜ Fine (formulaOf (now kinds) (now left) (now right) (now most) o) ⌝ }
+    ensures { λ r. ⌜ ((F : Formula) → Compiled (formulaOf (now (kinds .entry)) (now (left .entry)) (now (right .entry)) (now (most .entry)) o) F → Proper F → Opens (r .open) (r .values) (TrueAt F)) ⌝ }
 {
-    let p = f.program;
-    let v = f.vertices;
+    let v = o.vertices;
     let flags = v.present;
     let lo = v.lo;
     let hi = v.hi;
     let mut near = begin(v.count, flags, lo, hi);
     let mut nodes = [[0u16; ROW]; INSTRUCTIONS];
-    let mut most = [0i64; INSTRUCTIONS];
-    lay(
-        &p.kinds,
-        &p.left,
-        &p.right,
-        &p.most,
-        p.count,
-        &mut nodes,
-        &mut most,
-    );
+    let mut weights = [0i64; INSTRUCTIONS];
+    lay(kinds, left, right, most, o.count, &mut nodes, &mut weights);
     let ext = Extent {
-        count: p.count,
+        count: o.count,
         last: v.count - 1,
     };
-    opens_under(&nodes, &most, ext, &mut near)
+    opens_under(&nodes, &weights, ext, &mut near)
 }

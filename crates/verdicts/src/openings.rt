@@ -1,6 +1,8 @@
 // The first formula that is open.
-use formula::formulas::formula;
 use formula::formulas::formula_count;
+use formula::formulas::outline;
+use limits::INSTRUCTIONS;
+use limits::PLACES;
 use limits::VERTICES;
 use question::types::Question;
 use tableau::openings::formula_opens;
@@ -21,10 +23,14 @@ pub fn first_open(q: Question, asked: u8) -> Found
     ensures { λ r. ⌜ Finds (findingOf (questionOf q) asked) r × Shown (questionOf q) asked r ⌝ }
 {
     let n = formula_count(q, asked);
+    let mut kinds = [0u8; INSTRUCTIONS];
+    let mut left = [0u8; PLACES];
+    let mut right = [0u8; PLACES];
+    let mut most = [0i64; PLACES];
     let mut i: usize = 0;
     while i < n {
-        let f = formula(q, asked, i);
-        let r = formula_opens(f);
+        let o = outline(&mut kinds, &mut left, &mut right, &mut most, q, asked, i);
+        let r = formula_opens(&kinds, &left, &right, &most, o);
         if r.open {
             let values = r.values;
             return Found {
