@@ -1,6 +1,8 @@
 // Both kinds of sheet, from the start of the room on, as far as they fit.
-use formula::formulas::formula;
 use formula::formulas::formula_count;
+use formula::formulas::outline;
+use limits::INSTRUCTIONS;
+use limits::PLACES;
 use question::types::Question;
 use room::Spot;
 use room::put_all;
@@ -36,8 +38,12 @@ fn put_tree(room: &mut [u8], spot: Spot, q: Question, asked: u8, i: usize) -> Sp
     requires { ⌜ Held q × Accepted (questionOf q) × (i < length (formulas (questionOf q) asked)) ⌝ }
     ensures { λ r. ⌜ Grows (now (room .entry)) spot (growTree lastVertex (formulaAt (formulas (questionOf q) asked) i)) (now (room .exit)) r ⌝ }
 {
-    let f = formula(q, asked, i);
-    plant_formula(room, spot, f)
+    let mut kinds = [0u8; INSTRUCTIONS];
+    let mut left = [0u8; PLACES];
+    let mut right = [0u8; PLACES];
+    let mut most = [0i64; PLACES];
+    let o = outline(&mut kinds, &mut left, &mut right, &mut most, q, asked, i);
+    plant_formula(room, spot, &kinds, &left, &right, &most, o)
 }
 
 // Every formula's tree, one after another. Every tree is shut, so a byte that found no room ends the work.
@@ -74,8 +80,20 @@ pub fn put_no(room: &mut [u8], q: Question, asked: u8, number: usize) -> Spot
     ensures { λ r. ⌜ filling (now (room .exit)) r ≡ puts (filling (now (room .entry)) atStart) (sheetOf (questionOf q) asked) ⌝ }
 {
     let start = put_header(room, asked, 1);
-    let f = formula(q, asked, number);
-    let pairs = f.pairs;
-    let values = first_leaf(f);
+    let mut kinds = [0u8; INSTRUCTIONS];
+    let mut left = [0u8; PLACES];
+    let mut right = [0u8; PLACES];
+    let mut most = [0i64; PLACES];
+    let o = outline(
+        &mut kinds,
+        &mut left,
+        &mut right,
+        &mut most,
+        q,
+        asked,
+        number,
+    );
+    let pairs = o.pairs;
+    let values = first_leaf(&kinds, &left, &right, &most, o);
     put_refutation(room, start, q, number as u8, pairs, values)
 }

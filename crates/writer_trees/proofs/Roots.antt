@@ -1,9 +1,9 @@
 -- The root of the descent: the closure of the ranges' facts, and the formula's tree.
-use Prim.Native.Nat.{ℕ, suc, _≤_}
+use Prim.Native.Nat.{ℕ, suc}
 use mathlib.Core.Path.{_≡_, refl, sym, ap, _∙_, subst}
 use mathlib.Core.List.{List, []}
 use native.Mathlib.Omega.{arith}
-use lib.ListN.{length, take, length-take}
+use lib.ListN.{length, take}
 use lib.IntN.{ℤ}
 use Rattle.page_meaning.specs.Limits.{mostVertices}
 use Rattle.page_walks.specs.Grid.{Grid}
@@ -28,9 +28,6 @@ use Rattle.writer_trees.proofs.Plants.{Begun, placing, planted-same}
 
 pub kinds-long : (F : Formula) (kinds : List ℕ) (n : ℕ) (left right : List ℕ) (most : List ℤ) (few : ℕ) → Coded F kinds n left right most few → length (take n kinds) ≡ n
 kinds-long F kinds n left right most few c = ap length (c .lent .kinds) ∙ kinds-length (F .program) ∙ sym (c .n-is)
-
-pub reaches : {A : Type 0} (n : ℕ) (l : List A) → length (take n l) ≡ n → n ≤ length l
-reaches n l e = omega (arith, length-take n l)
 
 module _ (F : Formula) (kinds : List ℕ) (n : ℕ) (left right : List ℕ) (most : List ℤ) (few : ℕ) (c : Coded F kinds n left right most few) (p : Proper F) (t : Tree) (tells : Tells t (F .program)) (last-is : t .last ≡ length (F .ranges)) (near : Grid) (s : Begun F near) where
   abbrev facts : Grid

@@ -8,7 +8,7 @@ use ints::weights::negation;
 use limits::INSTRUCTIONS;
 use limits::PLACES;
 use limits::VERTICES;
-use program::types::Formula;
+use program::types::Outline;
 use program_tree::nodes::lay;
 use program_tree::types::Extent;
 use program_tree::types::ROW;
@@ -23,7 +23,7 @@ ghost use Rattle.page_formulas.specs.Formulas as written;
 ghost use Rattle.page_formulas.specs.Program.{Program, Values};
 ghost use Rattle.page_formulas.specs.Proper.{Proper};
 ghost use Rattle.page_formulas.specs.Vertices.{present};
-ghost use Rattle.program.specs.Compiled.{Compiled};
+ghost use Rattle.program.specs.Compiled.{Compiled, formulaOf};
 ghost use Rattle.page_sheets.specs.Grow.{growTree, openAt};
 ghost use Rattle.page_sheets.specs.Sheet.{lastVertex};
 ghost use Rattle.program_tree.specs.Nodes.{treeOf, Tells};
@@ -83,63 +83,59 @@ fn descend(
         if passes(k) {
             return near[0];
         }
-        let a = left[i] as usize;
-        let b = right[i] as usize;
-        let w = most[i];
+        let to = left[i] as usize;
+        let from = right[i] as usize;
+        let weight = most[i];
+        let fact = Edge { from, to, weight };
         let mut tried = near;
-        let open = opens_with(
-            nodes,
-            weights,
-            ext,
-            &mut tried,
-            Edge {
-                from: b,
-                to: a,
-                weight: w,
-            },
-        );
+        let open = opens_with(nodes, weights, ext, &mut tried, fact);
         if open {
             near = tried;
             truths[i] = 1;
             i += 1;
             continue;
         }
-        relax_in(&mut near, ext.last + 1, a, b, negation(w));
+        relax_in(&mut near, ext.last + 1, to, from, negation(weight));
         truths[i] = 0;
         i += 1;
     }
     near[0]
 }
 
-// The same of a compiled formula.
-pub fn first_leaf(f: Formula) -> [i64; VERTICES]
-    requires { ⌜ FineOpen f ⌝ }
-    ensures { λ r. ⌜ ((F : written.Formula) (x : Values) → Compiled f F → Proper F → growTree lastVertex F ≡ openAt x → Leaf (λ v. T (present (F .ranges) v)) x r) ⌝ }
+// The same of a compiled formula. Its arrays are made slices, of which a part can be lent on.
+pub fn first_leaf<'a>(
+    kinds: &'a [u8; INSTRUCTIONS],
+    left: &'a [u8; PLACES],
+    right: &'a [u8; PLACES],
+    most: &'a [i64; PLACES],
+    o: Outline,
+) -> [i64; VERTICES]
+    requires { ⌜ FineOpen (formulaOf (now kinds) (now left) (now right) (now most) o) ⌝ }
+    ensures { λ r. ⌜ ((F : written.Formula) (x : Values) → Compiled (formulaOf (now (kinds .entry)) (now (left .entry)) (now (right .entry)) (now (most .entry)) o) F → Proper F → growTree lastVertex F ≡ openAt x → Leaf (λ v. T (present (F .ranges) v)) x r) ⌝ }
 {
-    let p = f.program;
-    let v = f.vertices;
+    let v = o.vertices;
     let flags = v.present;
     let lo = v.lo;
     let hi = v.hi;
     let near = begin(v.count, flags, lo, hi);
-    let kinds = p.kinds;
-    let left = p.left;
-    let right = p.right;
-    let most = p.most;
-    let n = p.count;
-    let few = p.places;
+    let n = o.count;
+    let few = o.places;
     let mut nodes = [[0u16; ROW]; INSTRUCTIONS];
     let mut weights = [0i64; INSTRUCTIONS];
-    lay(&kinds, &left, &right, &most, n, &mut nodes, &mut weights);
+    lay(kinds, left, right, most, n, &mut nodes, &mut weights);
     let ext = Extent {
         count: n,
         last: v.count - 1,
     };
+    let ks: &[u8] = kinds;
+    let ls: &[u8] = left;
+    let rs: &[u8] = right;
+    let ms: &[i64] = most;
     descend(
-        &kinds[..n],
-        &left[..few],
-        &right[..few],
-        &most[..few],
+        &ks[..n],
+        &ls[..few],
+        &rs[..few],
+        &ms[..few],
         &nodes,
         &weights,
         ext,

@@ -6,9 +6,10 @@ use facts::start;
 use grid::edge;
 use grid::tighten;
 use ints::weights::negation;
+use limits::INSTRUCTIONS;
 use limits::PLACES;
 use limits::VERTICES;
-use program::types::Formula;
+use program::types::Outline;
 use room::Spot;
 use room::put;
 use room::put_all;
@@ -29,7 +30,7 @@ ghost use Rattle.page_sheets.specs.Tree.{bytesOf, cycle};
 ghost use Rattle.page_walks.specs.Grid.{weight, tighten};
 ghost use Rattle.page_walks.specs.Search.{search};
 ghost use Rattle.program.specs.Lent.{Lent};
-ghost use Rattle.program.specs.Compiled.{Compiled, Fine};
+ghost use Rattle.program.specs.Compiled.{Compiled, Fine, formulaOf};
 ghost use Rattle.page_sheets.specs.Fast.{strainedNode, cycleOf};
 ghost use Rattle.page_sheets.specs.Grow.{growTree};
 ghost use Rattle.page_sheets.specs.Sheet.{lastVertex};
@@ -228,37 +229,42 @@ pub fn grow(
     }
 }
 
-// A compiled formula's tree, from its root.
-pub fn plant_formula(room: &mut [u8], spot: Spot, f: Formula) -> Spot
-    requires { ⌜ Fine f ⌝ }
-    ensures { λ r. ⌜ ((F : written.Formula) → Compiled f F → Proper F → Grows (now (room .entry)) spot (growTree lastVertex F) (now (room .exit)) r) ⌝ }
+// A compiled formula's tree, from its root. Its arrays are made slices, of which a part can be lent on.
+pub fn plant_formula<'a>(
+    room: &mut [u8],
+    spot: Spot,
+    kinds: &'a [u8; INSTRUCTIONS],
+    left: &'a [u8; PLACES],
+    right: &'a [u8; PLACES],
+    most: &'a [i64; PLACES],
+    o: Outline,
+) -> Spot
+    requires { ⌜ Fine (formulaOf (now kinds) (now left) (now right) (now most) o) ⌝ }
+    ensures { λ r. ⌜ ((F : written.Formula) → Compiled (formulaOf (now (kinds .entry)) (now (left .entry)) (now (right .entry)) (now (most .entry)) o) F → Proper F → Grows (now (room .entry)) spot (growTree lastVertex F) (now (room .exit)) r) ⌝ }
 {
-    let p = f.program;
-    let v = f.vertices;
+    let v = o.vertices;
     let flags = v.present;
     let lo = v.lo;
     let hi = v.hi;
     let facts = start(flags, lo, hi);
     let near = begin(v.count, flags, lo, hi);
-    let kinds = p.kinds;
-    let left = p.left;
-    let right = p.right;
-    let most = p.most;
-    let n = p.count;
-    let few = p.places;
     let root = Node {
         spot,
         last: v.count - 1,
-        undecided: few,
+        undecided: o.places,
         truths: [0; PLACES],
     };
+    let ks: &[u8] = kinds;
+    let ls: &[u8] = left;
+    let rs: &[u8] = right;
+    let ms: &[i64] = most;
     grow(
         room,
         root,
-        &kinds[..n],
-        &left[..few],
-        &right[..few],
-        &most[..few],
+        &ks[..o.count],
+        &ls[..o.places],
+        &rs[..o.places],
+        &ms[..o.places],
         &facts,
         &near,
     )

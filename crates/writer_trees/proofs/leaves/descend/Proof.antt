@@ -53,23 +53,23 @@ returns c =
     let l = c .before .before .before .before .before .loop in
     λ F x o. leading-leaf (s .args .ext .last) F _ _ _ _ (o .lent) x (l .i) (l .truths) (l .near) (l .inv .2 .leading F x o) (l .inv .2 .table) (s .pre .places .few) (passing-is (knownKinds (now (s .args .kinds)) (decisions (l .truths) (l .i))) (ap passing (sym (c .before .before .before .known-so-far .ensures)) ∙ sym (c .before .before .passes .ensures) ∙ c .before .if1 .taken))
 
-shared-slice-read-a : tie.Need-shared-slice-read-a Inv-loop μ-loop
-shared-slice-read-a c = let s = c .before .before .before .before .before .before .before .before .before in omega (arith, s .pre .places .as-long .0, c .before .before .before .before .loop-test .taken)
+shared-slice-read-to : tie.Need-shared-slice-read-to Inv-loop μ-loop
+shared-slice-read-to c = let s = c .before .before .before .before .before .before .before .before .before in omega (arith, s .pre .places .as-long .0, c .before .before .before .before .loop-test .taken)
 
-cast-a : tie.Need-cast-a Inv-loop μ-loop
-cast-a c = omega (arith, c .shared-slice-known4 .given (c .before .before .before .before .before .loop .i))
+cast-to : tie.Need-cast-to Inv-loop μ-loop
+cast-to c = omega (arith, c .shared-slice-known4 .given (c .before .before .before .before .before .loop .i))
 
-shared-slice-read-b : tie.Need-shared-slice-read-b Inv-loop μ-loop
-shared-slice-read-b c = let s = c .before .before .before .before .before .before .before .before .before .before in omega (arith, s .pre .places .as-long .1, c .before .before .before .before .before .loop-test .taken)
+shared-slice-read-from : tie.Need-shared-slice-read-from Inv-loop μ-loop
+shared-slice-read-from c = let s = c .before .before .before .before .before .before .before .before .before .before in omega (arith, s .pre .places .as-long .1, c .before .before .before .before .before .loop-test .taken)
 
-cast-b : tie.Need-cast-b Inv-loop μ-loop
-cast-b c = omega (arith, c .shared-slice-known5 .given (c .before .before .before .before .before .before .loop .i))
+cast-from : tie.Need-cast-from Inv-loop μ-loop
+cast-from c = omega (arith, c .shared-slice-known5 .given (c .before .before .before .before .before .before .loop .i))
 
-mul-w : tie.Need-mul-w Inv-loop μ-loop
-mul-w c = search needs
+mul-weight : tie.Need-mul-weight Inv-loop μ-loop
+mul-weight c = search needs
 
-shared-slice-copy-out-w : tie.Need-shared-slice-copy-out-w Inv-loop μ-loop
-shared-slice-copy-out-w c = search needs
+shared-slice-copy-out-weight : tie.Need-shared-slice-copy-out-weight Inv-loop μ-loop
+shared-slice-copy-out-weight c = search needs
 
 opens-with-requires : tie.Need-opens-with-requires Inv-loop μ-loop
 opens-with-requires c κs =
@@ -150,12 +150,12 @@ descend-spec =
     passes-requires
     array-copy-out-result
     returns
-    shared-slice-read-a
-    cast-a
-    shared-slice-read-b
-    cast-b
-    mul-w
-    shared-slice-copy-out-w
+    shared-slice-read-to
+    cast-to
+    shared-slice-read-from
+    cast-from
+    mul-weight
+    shared-slice-copy-out-weight
     opens-with-requires
     array-write-truths
     add-i

@@ -8,72 +8,65 @@ use Rattle.page_walks.proofs.Rows.{sized}
 use Rattle.page_formulas.specs.Formulas.{Formula}
 use Rattle.page_formulas.specs.Proper.{Proper}
 use Rattle.program.specs.Lent.{Coded}
-use Rattle.program.specs.Compiled.{Compiled}
+use Rattle.program.specs.declared.types.Formula as compiled
+use Rattle.program.specs.Compiled.{Compiled, formulaOf}
 use Rattle.program.proofs.Lends.{small-spans, spanned-of}
 use Rattle.program.proofs.Ranges.{coded-of, ranging-of, ranged}
 use Rattle.facts.proofs.Places.{lengths}
 use Rattle.writer_trees.proofs.Plants.{Begun, begun-of, root-ready, root-grows}
-use Rattle.writer_trees.proofs.Roots.{kinds-long, reaches}
+use Rattle.writer_trees.proofs.Roots.{kinds-long}
 use borrow.Author.Needs.{needs}
 use Rattle.writer_trees.proofs.trees.plant_formula.Statement.{statement}
 use Rattle.writer_trees.proofs.trees.plant_formula.Tie as tie
 
--- the formula's program, as it is lent
-coded : (s : tie.Start) → let p = s .args .f .program in Coded (s .pre .formula) (p .kinds) (p .count) (p .left) (p .right) (p .most) (p .places)
-coded s = coded-of (s .args .f) (s .pre .formula) (s .pre .is)
+-- the formula that is lent
+abbrev given : tie.Start → compiled.Formula
+given s = let a = s .args in formulaOf (now (a .kinds)) (now (a .left)) (now (a .right)) (now (a .most)) (a .o)
+
+-- its program
+coded : (s : tie.Start) → let p = given s .program in Coded (s .pre .formula) (p .kinds) (p .count) (p .left) (p .right) (p .most) (p .places)
+coded s = coded-of (given s) (s .pre .formula) (s .pre .is)
 
 start-requires : tie.Need-start-requires
 start-requires c κs =
-    let s = c .before .before .before .before .before .before in
+    let s = c .before .before .before .before .before in
     let q = s .pre in
-    small-spans _ _ _ _ (spanned-of (s .args .f) (q .formula) (q .is) (q .proper .vertices)) (q .proper .ranges-small)
+    small-spans _ _ _ _ (spanned-of (given s) (q .formula) (q .is) (q .proper .vertices)) (q .proper .ranges-small)
 
 begin-requires : tie.Need-begin-requires
 begin-requires c κs =
-    let s = c .before .before .before .before .before .before .before in
+    let s = c .before .before .before .before .before .before in
     let q = s .pre in
-    ranged _ _ _ _ _ (ranging-of (s .args .f) (q .formula) (q .is) (q .proper .vertices)) (q .proper .ranges-small) (q .proper .ranges-some)
+    ranged _ _ _ _ _ (ranging-of (given s) (q .formula) (q .is) (q .proper .vertices)) (q .proper .ranges-small) (q .proper .ranges-some)
 
 -- the closure is that of the ranges
-near-is : (c : tie.After-begin) → let f = c .before .before .before .before .before .before .before .before .args .f in (F : Formula) → Compiled f F → Proper F → Begun F (c .begin .result)
-near-is c = λ F is proper. begun-of F proper _ _ _ _ (ranging-of (c .before .before .before .before .before .before .before .before .args .f) F is (proper .vertices)) (c .begin .result) (sized mostVertices (c .begin .result) _ (c .begin .ok)) (c .begin .ensures)
+near-is : (c : tie.After-begin) → let f = given (c .before .before .before .before .before .before .before) in (F : Formula) → Compiled f F → Proper F → Begun F (c .begin .result)
+near-is c = λ F is proper. begun-of F proper _ _ _ _ (ranging-of (given (c .before .before .before .before .before .before .before)) F is (proper .vertices)) (c .begin .result) (sized mostVertices (c .begin .result) _ (c .begin .ok)) (c .begin .ensures)
 
-sub-t19 : tie.Need-sub-t19
-sub-t19 c = search needs
-
-array-share-prefix-kinds : tie.Need-array-share-prefix-kinds
-array-share-prefix-kinds c = let s = c .before .before .before .before .before .before .before .before .before .before .before .before .before .before in reaches _ _ (kinds-long _ _ _ _ _ _ _ (coded s))
+sub-t20 : tie.Need-sub-t20
+sub-t20 c = search needs
 
 slice-aggregate-grow : tie.Need-slice-aggregate-grow
-slice-aggregate-grow c = let s = c .before .before .before .before .before .before .before .before .before .before .before .before .before .before .before in sym (kinds-long _ _ _ _ _ _ _ (coded s))
-
-array-share-prefix-left : tie.Need-array-share-prefix-left
-array-share-prefix-left c = let s = c .before .before .before .before .before .before .before .before .before .before .before .before .before .before .before in reaches _ _ (lengths _ _ _ _ _ _ _ (coded s) .0)
+slice-aggregate-grow c = sym (kinds-long _ _ _ _ _ _ _ (coded (c .before .before .before .before .before .before .before .before .before .before .before .before .before .before)))
 
 slice-aggregate-grow-2 : tie.Need-slice-aggregate-grow-2
-slice-aggregate-grow-2 c = let s = c .before .before .before .before .before .before .before .before .before .before .before .before .before .before .before .before in sym (lengths _ _ _ _ _ _ _ (coded s) .0)
-
-array-share-prefix-right : tie.Need-array-share-prefix-right
-array-share-prefix-right c = let s = c .before .before .before .before .before .before .before .before .before .before .before .before .before .before .before .before in reaches _ _ (lengths _ _ _ _ _ _ _ (coded s) .1)
+slice-aggregate-grow-2 c = sym (lengths _ _ _ _ _ _ _ (coded (c .before .before .before .before .before .before .before .before .before .before .before .before .before .before .before)) .0)
 
 slice-aggregate-grow-3 : tie.Need-slice-aggregate-grow-3
-slice-aggregate-grow-3 c = let s = c .before .before .before .before .before .before .before .before .before .before .before .before .before .before .before .before .before in sym (lengths _ _ _ _ _ _ _ (coded s) .1)
-
-array-share-prefix-most : tie.Need-array-share-prefix-most
-array-share-prefix-most c = let s = c .before .before .before .before .before .before .before .before .before .before .before .before .before .before .before .before .before in reaches _ _ (lengths _ _ _ _ _ _ _ (coded s) .2)
+slice-aggregate-grow-3 c = sym (lengths _ _ _ _ _ _ _ (coded (c .before .before .before .before .before .before .before .before .before .before .before .before .before .before .before .before)) .1)
 
 slice-aggregate-grow-4 : tie.Need-slice-aggregate-grow-4
-slice-aggregate-grow-4 c = let s = c .before .before .before .before .before .before .before .before .before .before .before .before .before .before .before .before .before .before in sym (lengths _ _ _ _ _ _ _ (coded s) .2)
+slice-aggregate-grow-4 c = sym (lengths _ _ _ _ _ _ _ (coded (c .before .before .before .before .before .before .before .before .before .before .before .before .before .before .before .before .before)) .2)
 
 grow-requires : tie.Need-grow-requires
 grow-requires c κs =
-    let s = c .before .before .before .before .before .before .before .before .before .before .before .before .before .before .before .before .before .before .before .before in
+    let s = c .before .before .before .before .before .before .before .before .before .before .before .before .before .before .before .before .before .before .before in
     let q = s .pre in
     let k = coded s in
     let l = lengths _ _ _ _ _ _ _ k in (
       omega (arith, kinds-long _ _ _ _ _ _ _ k, k .n-is, q .proper .short),
       omega (arith, l .2),
-      root-ready _ _ _ _ _ _ _ k (q .proper) (s .args .f .vertices .count - 1) (omega (arith, q .is .vertices .count)) _ _ (c .before .before .before .before .before .before .before .before .before .before .before .before .before .start .ensures .meaning _ (spanned-of (s .args .f) (q .formula) (q .is) (q .proper .vertices))) (near-is (c .before .before .before .before .before .before .before .before .before .before .before .before) (q .formula) (q .is) (q .proper)),
+      root-ready _ _ _ _ _ _ _ k (q .proper) (s .args .o .vertices .count - 1) (omega (arith, q .is .vertices .count)) _ _ (c .before .before .before .before .before .before .before .before .before .before .before .before .before .start .ensures .meaning _ (spanned-of (given s) (q .formula) (q .is) (q .proper .vertices))) (near-is (c .before .before .before .before .before .before .before .before .before .before .before .before) (q .formula) (q .is) (q .proper)),
     )
 
 same-length : tie.Need-same-length
@@ -81,8 +74,8 @@ same-length c = search needs
 
 returns : tie.Need-returns
 returns c =
-    let s = c .before .before .before .before .before .before .before .before .before .before .before .before .before .before .before .before .before .before .before .before .before .before .before in
-    let f = s .args .f in
+    let s = c .before .before .before .before .before .before .before .before .before .before .before .before .before .before .before .before .before .before .before .before .before .before in
+    let f = given s in
     λ F is proper. root-grows F _ _ _ _ _ _ (coded-of f F is) proper (f .vertices .count - 1) (length (take (f .program .places) (f .program .most)) - f .program .places) (omega (arith, is .vertices .count)) (omega (arith, lengths F _ _ _ _ _ _ (coded-of f F is) .2)) _ _ _ (c .before .before .before .before .before .before .before .before .before .before .before .before .before .before .before .before .start .ensures .meaning _ (spanned-of f F is (proper .vertices))) (near-is (c .before .before .before .before .before .before .before .before .before .before .before .before .before .before .before) F is proper) (now (s .args .room)) (s .args .spot) _ _ (c .before .before .grow .ensures F (coded-of f F is .lent))
 
 pub plant-formula-spec : {M : Type 1} → statement M
@@ -91,14 +84,10 @@ plant-formula-spec =
     (tie.spec
     start-requires
     begin-requires
-    sub-t19
-    array-share-prefix-kinds
+    sub-t20
     slice-aggregate-grow
-    array-share-prefix-left
     slice-aggregate-grow-2
-    array-share-prefix-right
     slice-aggregate-grow-3
-    array-share-prefix-most
     slice-aggregate-grow-4
     grow-requires
     same-length
