@@ -164,7 +164,7 @@ pub fn line_of(
     l: Line,
 ) -> End
     requires { ⌜ Long (programOf (now kinds) (now left) (now right) (now most) begun) × Legible d × Tabled l (lineOf l) × Fits (lineOf l) ⌝ }
-    ensures { λ r. ⌜ ((Q : meant.Question) → Under Q d → Means (programOf (now (kinds .exit)) (now (left .exit)) (now (right .exit)) (now (most .exit)) r) (readParts (wordsOf Q d) (rowsOf Q (d .pairs)) (firstOf l) (restOf l))) ⌝ }
+    ensures { λ r. ⌜ ((Q : meant.Question) → Under Q d → Means (programOf (now (kinds .exit)) (now (left .exit)) (now (right .exit)) (now (most .exit)) r) (readParts (wordsOf Q d) (rowsOf Q (d .pairs)) (firstOf l) (restOf l))) × Long (programOf (now (kinds .exit)) (now (left .exit)) (now (right .exit)) (now (most .exit)) r) ⌝ }
 {
     let n = l.count;
     let first = l.parts[0];

@@ -31,7 +31,7 @@ pub fn outline(
     i: usize,
 ) -> Outline
     requires { ⌜ Long (programOf (now kinds) (now left) (now right) (now most) begun) × Held q × Accepted (questionOf q) × (i < length (formulas (questionOf q) asked)) ⌝ }
-    ensures { λ r. ⌜ Compiled (formulaOf (now (kinds .exit)) (now (left .exit)) (now (right .exit)) (now (most .exit)) r) (formulaAt (formulas (questionOf q) asked) i) ⌝ }
+    ensures { λ r. ⌜ Compiled (formulaOf (now (kinds .exit)) (now (left .exit)) (now (right .exit)) (now (most .exit)) r) (formulaAt (formulas (questionOf q) asked) i) × Long (formulaOf (now (kinds .exit)) (now (left .exit)) (now (right .exit)) (now (most .exit)) r .program) ⌝ }
 {
     let change = q.change;
     let verb = change.verb;

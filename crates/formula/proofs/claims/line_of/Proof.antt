@@ -87,12 +87,13 @@ loop-again c =
     )
 
 returns : tie.Need-returns Inv-loop μ-loop
-returns c Q u =
+returns c =
     let at = c .before .before .before .before .before .before .before .before in
     let a = at .args in
     let l = c .before .loop in
     let s = l .inv .2 in
-    parts-all (a .t6) (at .pre .2) (at .pre .3) (s .begin) (s .long) (s .count) (s .places) Q (a .d) _ (l .i) (c .loop-test .left) (s .wrote Q u)
+    let g = at .pre .1 in
+    (λ Q u. parts-all (a .t6) (at .pre .2) (at .pre .3) (s .begin) (s .long) (s .count) (s .places) Q (a .d) _ (l .i) (c .loop-test .left) (s .wrote Q u), s .wrote (g .question) (g .under) .long)
 
 pub line-of-spec : {M : Type 1} → statement M
 line-of-spec =

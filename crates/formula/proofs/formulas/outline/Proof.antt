@@ -59,9 +59,11 @@ returns c =
     let Q = questionOf (a .q) in
     let l = c .before .before .before .before .before .before .before .before .line-at in
     let d = c .before .before .before .before .before .before .before .deed-of in
-    let e = c .before .before .line-of in
-    written (a .q) _ (l .result) (d .result) (a .q .change .verb) (eqb (a .asked) 1) (a .i) (F.formulas Q (a .asked)) (which at) (l .ensures) (d .ensures) refl (e .ensures Q (d .ensures .under))
-    (subst (Spans (c .vertices .result)) (ranges-same (a .q) (whole at) (l .result .pairs)) (c .vertices .ensures))
+    let e = c .before .before .line-of in (
+      written (a .q) _ (l .result) (d .result) (a .q .change .verb) (eqb (a .asked) 1) (a .i) (F.formulas Q (a .asked)) (which at) (l .ensures) (d .ensures) refl (e .ensures .0 Q (d .ensures .under))
+          (subst (Spans (c .vertices .result)) (ranges-same (a .q) (whole at) (l .result .pairs)) (c .vertices .ensures)),
+      e .ensures .1,
+    )
 
 pub outline-spec : {M : Type 1} → statement M
 outline-spec =
