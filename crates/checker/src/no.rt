@@ -2,11 +2,13 @@
 use checker_rows::fields::Reading;
 use checker_rows::fields::fields;
 use checker_rows::formulas::formula_met;
-use formula::formulas::formula;
 use formula::formulas::formula_count;
+use formula::formulas::outline;
+use limits::INSTRUCTIONS;
+use limits::PLACES;
 use outcome::Judged;
 use outcome::Verdict;
-use program::types::Formula;
+use program::types::Outline;
 use question::types::Question;
 ghost use mathlib.Core.Path.{_≡_};
 ghost use mathlib.Core.Bool.{cond};
@@ -18,7 +20,7 @@ ghost use Rattle.question.specs.Held.{Held, questionOf};
 ghost use Rattle.page_questions.specs.Accepted.{Accepted};
 ghost use Rattle.page_formulas.specs.Formulas.{formulas};
 ghost use Rattle.page_formulas.specs.Formulas as spec;
-ghost use Rattle.program.specs.Compiled.{Compiled, Fine};
+ghost use Rattle.program.specs.Compiled.{Compiled, Fine, formulaOf};
 ghost use Rattle.page_sheets.specs.Rows as rows;
 ghost use Rattle.page_sheets.specs.Sheet.{says, sayNo, refusal, noEnd, checkRows, checkNo};
 ghost use Rattle.outcome.specs.Told.{judgedOf};
@@ -45,24 +47,41 @@ fn ending(met: bool, ended: bool) -> Judged
 }
 
 // What a sheet comes to whose values, so many, may all stand there.
-fn rows_end(f: Formula, sheet: &[u8], count: usize) -> Judged
-    requires { ⌜ Fine f × (count < mostVertices) × (rows.fieldAt count ≤ length (now sheet)) ⌝ }
-    ensures { λ r. ⌜ ((F : spec.Formula) (q : meant.Question) → Compiled f F → count ≡ rows.fields q F → judgedOf r ≡ noEnd q F (now (sheet .entry))) ⌝ }
+fn rows_end(
+    kinds: &[u8],
+    left: &[u8],
+    right: &[u8],
+    most: &[i64],
+    o: Outline,
+    sheet: &[u8],
+    count: usize,
+) -> Judged
+    requires { ⌜ Fine (formulaOf (now kinds) (now left) (now right) (now most) o) × (count < mostVertices) × (rows.fieldAt count ≤ length (now sheet)) ⌝ }
+    ensures { λ r. ⌜ ((F : spec.Formula) (q : meant.Question) → Compiled (formulaOf (now (kinds .entry)) (now (left .entry)) (now (right .entry)) (now (most .entry)) o) F → count ≡ rows.fields q F → judgedOf r ≡ noEnd q F (now (sheet .entry))) ⌝ }
 {
-    let met = formula_met(f, sheet, count);
+    let met = formula_met(kinds, left, right, most, o, sheet, count);
     let ended = sheet.len() <= 8 + 4 * count;
     ending(met, ended)
 }
 
 // The values from the first on, for formula i.
-fn formula_rows(q: Question, i: usize, f: Formula, sheet: &[u8]) -> Judged
-    requires { ⌜ Held q × Fine f × (8 ≤ length (now sheet)) ⌝ }
-    ensures { λ r. ⌜ ((F : spec.Formula) → Compiled f F → judgedOf r ≡ checkRows (questionOf q) i F (now (sheet .entry))) ⌝ }
+fn formula_rows(
+    q: Question,
+    i: usize,
+    kinds: &[u8],
+    left: &[u8],
+    right: &[u8],
+    most: &[i64],
+    o: Outline,
+    sheet: &[u8],
+) -> Judged
+    requires { ⌜ Held q × Fine (formulaOf (now kinds) (now left) (now right) (now most) o) × (8 ≤ length (now sheet)) ⌝ }
+    ensures { λ r. ⌜ ((F : spec.Formula) → Compiled (formulaOf (now (kinds .entry)) (now (left .entry)) (now (right .entry)) (now (most .entry)) o) F → judgedOf r ≡ checkRows (questionOf q) i F (now (sheet .entry))) ⌝ }
 {
-    let count = value_count(q.shape.total, f.pairs);
+    let count = value_count(q.shape.total, o.pairs);
     let reading = fields(q, i, sheet, count);
     match reading {
-        Reading::All => rows_end(f, sheet, count),
+        Reading::All => rows_end(kinds, left, right, most, o, sheet, count),
         Reading::Refused(number, place) => Judged::Refused(number, place),
     }
 }
@@ -80,6 +99,10 @@ pub fn no_sheet(q: Question, asked: u8, sheet: &[u8]) -> Judged
     if n <= i {
         return Judged::Refused(14, 7);
     }
-    let f = formula(q, asked, i);
-    formula_rows(q, i, f, sheet)
+    let mut kinds = [0u8; INSTRUCTIONS];
+    let mut left = [0u8; PLACES];
+    let mut right = [0u8; PLACES];
+    let mut most = [0i64; PLACES];
+    let o = outline(&mut kinds, &mut left, &mut right, &mut most, q, asked, i);
+    formula_rows(q, i, &kinds, &left, &right, &most, o, sheet)
 }

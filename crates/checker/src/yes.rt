@@ -1,8 +1,10 @@
 // A yes sheet: one tree per formula, and then the end.
 use checker_trees::formulas::formula_tree;
 use checker_trees::nodes::Past;
-use formula::formulas::formula;
 use formula::formulas::formula_count;
+use formula::formulas::outline;
+use limits::INSTRUCTIONS;
+use limits::PLACES;
 use outcome::Judged;
 use outcome::Verdict;
 use question::types::Question;
@@ -24,9 +26,13 @@ pub fn yes_sheet(q: Question, asked: u8, sheet: &[u8]) -> Judged
     let mut at: usize = 7;
     let mut i: usize = 0;
     while i < n {
-        let f = formula(q, asked, i);
+        let mut kinds = [0u8; INSTRUCTIONS];
+        let mut left = [0u8; PLACES];
+        let mut right = [0u8; PLACES];
+        let mut most = [0i64; PLACES];
+        let o = outline(&mut kinds, &mut left, &mut right, &mut most, q, asked, i);
         let rest = &sheet[at..];
-        let past = formula_tree(f, rest);
+        let past = formula_tree(&kinds, &left, &right, &most, o, rest);
         match past {
             Past::At(p) => {
                 at += p;

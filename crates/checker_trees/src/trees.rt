@@ -15,8 +15,15 @@ ghost use Rattle.page_formulas.specs.Formulas.{Formula};
 ghost use Rattle.checker_trees.specs.Checking.{outcomeOf, checkLeft};
 ghost use Rattle.program.specs.Lent.{Shows, Lent, Lendable};
 
-// The tree at a position of the part that is lent, with so many places left: `truths` are the decisions of those before them, and
-// the grid holds the facts so far. Node 3 takes the first place left as true, then as false.
+// Where the check of a tree stands: its position in the part that is lent, the decisions so far, and how many places are left.
+pub struct Stage {
+    pub at: usize,
+    pub truths: [u8; PLACES],
+    pub todo: usize,
+}
+
+// The tree at a stage: the first `truths` are the decisions of the places before those left, and the grid holds the facts so far.
+// Node 3 takes the first place left as true, then as false.
 pub fn tree(
     kinds: &[u8],
     left: &[u8],
@@ -24,19 +31,20 @@ pub fn tree(
     most: &[i64],
     shown: &[bool],
     part: &[u8],
-    at: usize,
-    truths: [u8; PLACES],
     g: &[[i64; VERTICES]; VERTICES],
-    todo: usize,
+    stage: Stage,
 ) -> Past
     requires { ⌜ Lendable (now kinds) (now left) (now right) (now most) (now shown) ⌝ }
-    requires { ⌜ (todo ≤ length (now left)) × Sized mostVertices (now g) × AllWithin farN mostVertices (now g) ⌝ }
-    ensures { λ r. ⌜ ((F : Formula) (base : ℕ) → Lent (F .program) (now (kinds .entry)) (now (left .entry)) (now (right .entry)) (now (most .entry)) → Shows (now (shown .entry)) (F .ranges) → outcomeOf base (now (part .entry)) r ≡ checkLeft F todo truths (now (g .entry)) (base + at) (drop at (now (part .entry)))) ⌝ }
+    requires { ⌜ (stage .todo ≤ length (now left)) × Sized mostVertices (now g) × AllWithin farN mostVertices (now g) ⌝ }
+    ensures { λ r. ⌜ ((F : Formula) (base : ℕ) → Lent (F .program) (now (kinds .entry)) (now (left .entry)) (now (right .entry)) (now (most .entry)) → Shows (now (shown .entry)) (F .ranges) → outcomeOf base (now (part .entry)) r ≡ checkLeft F (stage .todo) (stage .truths) (now (g .entry)) (base + stage .at) (drop (stage .at) (now (part .entry)))) ⌝ }
 {
+    let truths = stage.truths;
+    let at = stage.at;
     if part.len() <= at {
         return Past::Refused(11, at);
     }
     let node = part[at];
+    let todo = stage.todo;
     let decided = left.len() - todo;
     if node == 1 {
         return false_leaf(kinds, truths, decided, part, at);
@@ -53,27 +61,27 @@ pub fn tree(
     let a = left[decided];
     let b = right[decided];
     let k = most[decided];
+    let after = at + 1;
     let less = todo - 1;
     let mut next = truths;
     next[decided] = 1;
     let yes = decide(*g, a, b, k, true);
-    let one = tree(
-        kinds,
-        left,
-        right,
-        most,
-        shown,
-        part,
-        at + 1,
-        next,
-        &yes,
-        less,
-    );
+    let first = Stage {
+        at: after,
+        truths: next,
+        todo: less,
+    };
+    let one = tree(kinds, left, right, most, shown, part, &yes, first);
     match one {
         Past::At(p) => {
             next[decided] = 0;
             let no = decide(*g, a, b, k, false);
-            tree(kinds, left, right, most, shown, part, p, next, &no, less)
+            let second = Stage {
+                at: p,
+                truths: next,
+                todo: less,
+            };
+            tree(kinds, left, right, most, shown, part, &no, second)
         }
         Past::Refused(number, p) => Past::Refused(number, p),
     }

@@ -23,7 +23,7 @@ ending-requires c κs = search needs
 returns : tie.Need-returns
 unfolding noEnd
 returns c = λ F q is e.
-    let s = c .before .before .before .args .sheet .now in
+    let s = c .before .before .before .before .before .before .args .sheet .now in
     c .ending .ensures ∙ ap₂ (λ b n. cond b (cond (leb (length s) (fieldAt n)) (says sayNo) (refusal 16 0)) (refusal 15 7)) (c .before .formula-met .ensures F q is e) e
 
 pub rows-end-spec : {M : Type 1} → statement M

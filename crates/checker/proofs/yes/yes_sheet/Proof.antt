@@ -36,8 +36,8 @@ loop-holds c = (omega arith, c .before .before .pre .2, refl)
 numbered : (c : tie.In-loop Inv-loop μ-loop) → let a = c .before .before .before .before .args in c .before .loop .i < length (formulas (questionOf (a .q)) (a .asked))
 numbered c = omega (arith, c .loop-test .taken, c .before .before .formula-count .ensures)
 
-formula-requires : tie.Need-formula-requires Inv-loop μ-loop
-formula-requires c κs = let s = c .before .before .before .before in (s .pre .0, s .pre .1, numbered c)
+outline-requires : tie.Need-outline-requires Inv-loop μ-loop
+outline-requires c κs = let e = c .before .before .before .before in let s = e .before .before .before .before in (search needs, s .pre .0, s .pre .1, numbered e)
 
 sub-rest : tie.Need-sub-rest Inv-loop μ-loop
 sub-rest c = search needs
@@ -48,31 +48,49 @@ part-rest-start c = search needs
 part-rest-end : tie.Need-part-rest-end Inv-loop μ-loop
 part-rest-end c = search needs
 
+slice-aggregate-formula-tree : tie.Need-slice-aggregate-formula-tree Inv-loop μ-loop
+slice-aggregate-formula-tree c = sym (c .before .before .outline .ensures .1 .kinds)
+
+slice-aggregate-formula-tree-2 : tie.Need-slice-aggregate-formula-tree-2 Inv-loop μ-loop
+slice-aggregate-formula-tree-2 c = sym (c .before .before .before .outline .ensures .1 .left)
+
+slice-aggregate-formula-tree-3 : tie.Need-slice-aggregate-formula-tree-3 Inv-loop μ-loop
+slice-aggregate-formula-tree-3 c = sym (c .before .before .before .before .outline .ensures .1 .right)
+
+slice-aggregate-formula-tree-4 : tie.Need-slice-aggregate-formula-tree-4 Inv-loop μ-loop
+slice-aggregate-formula-tree-4 c = sym (c .before .before .before .before .before .outline .ensures .1 .most)
+
 formula-tree-requires : tie.Need-formula-tree-requires Inv-loop μ-loop
 formula-tree-requires c κs =
-    let s = c .before .before .before .before .before .before in
-    fine-at (questionOf (s .args .q)) (s .pre .1) (s .args .asked) (c .before .before .before .loop .i) (numbered (c .before .before)) _ (c .before .formula .ensures)
+    let o = c .before .before .before .before .before in
+    let e = o .before .before .before .before .before in
+    let s = e .before .before .before .before in
+    fine-at (questionOf (s .args .q)) (s .pre .1) (s .args .asked) (e .before .loop .i) (numbered e) _ (o .outline .ensures .0)
+
+-- the turn of the loop in which a tree is checked
+abbrev turn : tie.After-formula-tree Inv-loop μ-loop → tie.In-loop Inv-loop μ-loop
+turn c = c .before .before .before .before .before .before .before .before .before .before .before
 
 -- what the tree comes to
-told : (c : tie.After-formula-tree Inv-loop μ-loop) → let a = c .before .before .before .before .before .before .before .args in let l = c .before .before .before .before .loop in let s = a .sheet .now in outcomeOf (l .at) (drop (l .at) s) (c .formula-tree .result) ≡ checkTree mostVertices (formulaAt (formulas (questionOf (a .q)) (a .asked)) (l .i)) (l .at) (drop (l .at) s)
+told : (c : tie.After-formula-tree Inv-loop μ-loop) → let a = turn c .before .before .before .before .args in let l = turn c .before .loop in let s = a .sheet .now in outcomeOf (l .at) (drop (l .at) s) (c .formula-tree .result) ≡ checkTree mostVertices (formulaAt (formulas (questionOf (a .q)) (a .asked)) (l .i)) (l .at) (drop (l .at) s)
 told c =
-    let a = c .before .before .before .before .before .before .before .args in
-    let l = c .before .before .before .before .loop in
+    let a = turn c .before .before .before .before .args in
+    let l = turn c .before .loop in
     let F = formulaAt (formulas (questionOf (a .q)) (a .asked)) (l .i) in
-    subst (λ part. outcomeOf (l .at) part (c .formula-tree .result) ≡ checkTree mostVertices F (l .at) part) (to-the-end (a .sheet .now) (l .at)) (c .formula-tree .ensures F (l .at) (c .before .before .formula .ensures))
+    subst (λ part. outcomeOf (l .at) part (c .formula-tree .result) ≡ checkTree mostVertices F (l .at) part) (to-the-end (a .sheet .now) (l .at)) (c .formula-tree .ensures F (l .at) (c .before .before .before .before .before .before .outline .ensures .0))
 
 -- it ends, or is refused, within the sheet
-within : (c : tie.After-formula-tree Inv-loop μ-loop) (r : Past) → c .formula-tree .result ≡ r → Inside (length (c .before .before .before .before .before .before .before .args .sheet .now) - c .before .before .before .before .loop .at) r
+within : (c : tie.After-formula-tree Inv-loop μ-loop) (r : Past) → c .formula-tree .result ≡ r → Inside (length (turn c .before .before .before .before .args .sheet .now) - turn c .before .loop .at) r
 within c r e =
-    let a = c .before .before .before .before .before .before .before .args in
-    let l = c .before .before .before .before .loop in
+    let a = turn c .before .before .before .before .args in
+    let l = turn c .before .loop in
     subst (λ x. Inside x r) (length-drop (l .at) (a .sheet .now)) (past-inside _ (l .at) (drop (l .at) (a .sheet .now)) r (ap (outcomeOf (l .at) (drop (l .at) (a .sheet .now))) (sym e) ∙ told c))
 
 enum-known-past : tie.Need-enum-known-past Inv-loop μ-loop
 enum-known-past c = search needs
 
 add-at : tie.Need-add-at Inv-loop μ-loop
-add-at c = omega (arith, within (c .before .before .before) _ (c .before .past .given .1))
+add-at c = let o = c .before .before .before in omega (arith, within o _ (c .before .past .given .1), turn o .before .loop .inv .1, turn o .before .before .before .before .good .1 .1 .0)
 
 add-i : tie.Need-add-i Inv-loop μ-loop
 add-i c = search needs
@@ -83,28 +101,28 @@ loop-less c = search needs
 loop-again : tie.Need-loop-again Inv-loop μ-loop
 loop-again c =
     let o = c .before .before .before in
-    let a = o .before .before .before .before .before .before .before .args in
-    let l = o .before .before .before .before .loop in
+    let a = turn o .before .before .before .before .args in
+    let l = turn o .before .loop in
     let s = a .sheet .now in
     let Fs = formulas (questionOf (a .q)) (a .asked) in (
-      search needs,
+      omega (arith, turn o .loop-test .taken),
       omega (arith, within o _ (c .before .past .given .1), l .inv .1),
-      sym (tree-good Fs s (l .i) (l .at) _ (numbered (o .before .before .before)) (ap (outcomeOf (l .at) (drop (l .at) s)) (sym (c .before .past .given .1)) ∙ told o)) ∙ l .inv .2,
+      sym (tree-good Fs s (l .i) (l .at) _ (numbered (turn o)) (ap (outcomeOf (l .at) (drop (l .at) s)) (sym (c .before .past .given .1)) ∙ told o)) ∙ l .inv .2,
     )
 
 enum-known-past-2 : tie.Need-enum-known-past-2 Inv-loop μ-loop
 enum-known-past-2 c = search needs
 
-add-t17 : tie.Need-add-t17 Inv-loop μ-loop
-add-t17 c = omega (arith, within (c .before .before .before) _ (c .before .past2 .given .1))
+add-t33 : tie.Need-add-t33 Inv-loop μ-loop
+add-t33 c = let o = c .before .before .before in omega (arith, within o _ (c .before .past2 .given .1), turn o .before .loop .inv .1, turn o .before .before .before .before .good .1 .1 .0)
 
 returns : tie.Need-returns Inv-loop μ-loop
 returns c =
     let o = c .before .before .before in
-    let a = o .before .before .before .before .before .before .before .args in
-    let l = o .before .before .before .before .loop in
+    let a = turn o .before .before .before .before .args in
+    let l = turn o .before .loop in
     let s = a .sheet .now in
-    sym (tree-bad (formulas (questionOf (a .q)) (a .asked)) s (l .i) (l .at) (numbered (o .before .before .before)) _ _ (ap (outcomeOf (l .at) (drop (l .at) s)) (sym (c .before .past2 .given .1)) ∙ told o)) ∙ l .inv .2
+    sym (tree-bad (formulas (questionOf (a .q)) (a .asked)) s (l .i) (l .at) (numbered (turn o)) _ _ (ap (outcomeOf (l .at) (drop (l .at) s)) (sym (c .before .past2 .given .1)) ∙ told o)) ∙ l .inv .2
 
 returns-2 : tie.Need-returns-2 Inv-loop μ-loop
 returns-2 c =
@@ -128,10 +146,14 @@ yes-sheet-spec =
     μ-loop
     formula-count-requires
     loop-holds
-    formula-requires
+    outline-requires
     sub-rest
     part-rest-start
     part-rest-end
+    slice-aggregate-formula-tree
+    slice-aggregate-formula-tree-2
+    slice-aggregate-formula-tree-3
+    slice-aggregate-formula-tree-4
     formula-tree-requires
     enum-known-past
     add-at
@@ -139,7 +161,7 @@ yes-sheet-spec =
     loop-less
     loop-again
     enum-known-past-2
-    add-t17
+    add-t33
     returns
     returns-2
     returns-3)

@@ -1,26 +1,78 @@
-use mathlib.Core.Path.{_∙_}
-use Rattle.program.proofs.Lends.{lent-of, shows-of, count-few, places-few, places-of, spanned-of, small-spans, same-few}
+use Prim.Native.Nat.{_+_}
+use mathlib.Core.Path.{_≡_, sym, ap, _∙_}
+use native.Mathlib.Omega.{arith}
+use lib.ListN.{length, length-map, take}
+use Rattle.page_meaning.specs.Limits.{mostVertices}
+use Rattle.page_walks.proofs.Rows.{sized}
+use Rattle.page_formulas.proofs.Trees.{kinds-length}
+use Rattle.program.specs.Compiled.{formulaOf}
+use Rattle.program.specs.declared.types.Formula.{Formula}
+use Rattle.program.proofs.Lends.{lent-of, shows-of, count-few, places-of, spanned-of, small-spans, same-few}
+use Rattle.program.proofs.Ranges.{coded-of}
+use Rattle.facts.proofs.Places.{lengths}
 use Rattle.checker_trees.proofs.Standing.{left-all}
+use borrow.Author.Needs.{needs}
 use Rattle.checker_trees.proofs.formulas.formula_tree.Statement.{statement}
 use Rattle.checker_trees.proofs.formulas.formula_tree.Tie as tie
 
-start-requires : tie.Need-start-requires
-start-requires c κs = let s = c .before .before .before .before .before .before .before .before .before .before in let i = s .pre in small-spans _ _ _ _ (spanned-of (s .args .f) (i .formula) (i .is) (i .proper .vertices)) (i .proper .ranges-small)
+-- the formula that is lent
+abbrev lent : tie.Start → Formula
+lent s = let a = s .args in formulaOf (a .kinds .now) (a .left .now) (a .right .now) (a .most .now) (a .o)
 
-lent-tree-requires : tie.Need-lent-tree-requires
-lent-tree-requires c κs =
-    let s = c .before .before .before .before .before .before .before .before .before .before .before in
-    let f = s .args .f in
+start-requires : tie.Need-start-requires
+start-requires c κs = let s = c .before .before .before .before .before .before .before .before in let i = s .pre in small-spans _ _ _ _ (spanned-of (lent s) (i .formula) (i .is) (i .proper .vertices)) (i .proper .ranges-small)
+
+-- its used parts are as long as it says
+instructions : (s : tie.Start) → length (take (s .args .o .count) (s .args .kinds .now)) ≡ s .args .o .count
+instructions s = let i = s .pre in ap length (i .is .program .kinds) ∙ kinds-length (i .formula .program) ∙ sym (i .is .program .count)
+
+used : (s : tie.Start) → let a = s .args in let n = a .o .places in (length (take n (a .left .now)) ≡ n) × (length (take n (a .right .now)) ≡ n) × (length (take n (a .most .now)) ≡ n)
+used s = let i = s .pre in lengths _ _ _ _ _ _ _ (coded-of (lent s) (i .formula) (i .is))
+
+flags : (s : tie.Start) → length (s .args .o .vertices .present) ≡ mostVertices
+flags s = sym (length-map (s .args .o .vertices .present) _) ∙ s .good .1 .1 .1 .1 .0 .1 .1 .1 .1 .1 .0 .1 .1 .1 .0 .1 .0 .1
+
+slice-aggregate-used : tie.Need-slice-aggregate-used
+slice-aggregate-used c = sym (instructions (c .before .before .before .before .before .before .before .before .before .before))
+
+slice-aggregate-a : tie.Need-slice-aggregate-a
+slice-aggregate-a c = sym (used (c .before .before .before .before .before .before .before .before .before .before .before) .0)
+
+slice-aggregate-b : tie.Need-slice-aggregate-b
+slice-aggregate-b c = sym (used (c .before .before .before .before .before .before .before .before .before .before .before .before) .1)
+
+slice-aggregate-k : tie.Need-slice-aggregate-k
+slice-aggregate-k c = sym (used (c .before .before .before .before .before .before .before .before .before .before .before .before .before) .2)
+
+slice-aggregate-tree : tie.Need-slice-aggregate-tree
+slice-aggregate-tree c = search needs
+
+tree-requires : tie.Need-tree-requires
+tree-requires c κs =
+    let o = c .before .before .before .before .before .before in
+    let s = o .before .before .before .before .before .before .before .before .before in
     let i = s .pre in
-    (count-few f (i .formula) (i .is) (i .proper), places-few f (i .formula) (i .is) (i .proper), places-of f (i .formula) (i .is) (i .proper), c .start .ensures .small)
+    (record { short = omega (arith, instructions s, count-few (lent s) (i .formula) (i .is) (i .proper)); places = places-of (lent s) (i .formula) (i .is) (i .proper); flags = omega (arith, flags s) }, (omega (arith, used s .0), sized mostVertices (o .start .result) _ (o .start .ok), o .start .ensures .small))
 
 returns : tie.Need-returns
 returns c = λ F base is.
-    let s = c .before .before .before .before .before .before .before .before .before .before .before .before in
-    let f = s .args .f in
+    let o = c .before .before .before .before .before .before .before in
+    let s = o .before .before .before .before .before .before .before .before .before in
+    let f = lent s in
     let i = s .pre in
-    let g = c .before .start .ensures .meaning (F .ranges) (spanned-of f F is (same-few f (i .formula) F (i .is) is (i .proper .vertices))) in
-    (rw g at (c .lent-tree .ensures F base (lent-of f F is) (shows-of f F is))) ∙ left-all F (f .program .places) _ base (s .args .part .now) (is .program .places)
+    let z : base + 0 ≡ base = omega arith in
+    let g = o .start .ensures .meaning (F .ranges) (spanned-of f F is (same-few f (i .formula) F (i .is) is (i .proper .vertices))) in
+    (rw (g, z) at (c .tree .ensures F base (lent-of f F is) (shows-of f F is))) ∙ left-all F (f .program .places) _ base (s .args .part .now) (is .program .places)
 
 pub formula-tree-spec : {M : Type 1} → statement M
-formula-tree-spec = tie.close (tie.spec start-requires lent-tree-requires returns)
+formula-tree-spec =
+    tie.close
+    (tie.spec
+    start-requires
+    slice-aggregate-used
+    slice-aggregate-a
+    slice-aggregate-b
+    slice-aggregate-k
+    slice-aggregate-tree
+    tree-requires
+    returns)
