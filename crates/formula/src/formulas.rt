@@ -4,9 +4,7 @@ use crate::deeds::deed_of;
 use crate::lines::line_at;
 use limits::INSTRUCTIONS;
 use limits::PLACES;
-use program::types::Formula;
 use program::types::Outline;
-use program::types::Program;
 use question::types::Question;
 use question::types::Verb;
 use sights::vertices::vertices;
@@ -45,32 +43,6 @@ pub fn outline(
         places: end.places,
         pairs,
         vertices: vertices(columns, q.shape.total, pairs),
-    }
-}
-
-// The same by value.
-pub fn formula(q: Question, asked: u8, i: usize) -> Formula
-    requires { ⌜ Held q × Accepted (questionOf q) × (i < length (formulas (questionOf q) asked)) ⌝ }
-    ensures { λ r. ⌜ Compiled r (formulaAt (formulas (questionOf q) asked) i) ⌝ }
-{
-    let mut kinds = [0u8; INSTRUCTIONS];
-    let mut left = [0u8; PLACES];
-    let mut right = [0u8; PLACES];
-    let mut most = [0i64; PLACES];
-    let o = outline(&mut kinds, &mut left, &mut right, &mut most, q, asked, i);
-    let vertices = o.vertices;
-    let program = Program {
-        kinds,
-        count: o.count,
-        left,
-        right,
-        most,
-        places: o.places,
-    };
-    Formula {
-        program,
-        pairs: o.pairs,
-        vertices,
     }
 }
 
