@@ -19,7 +19,7 @@ outline-requires c κs =
 first-leaf-requires : tie.Need-first-leaf-requires
 first-leaf-requires c κs =
     let s = c .before .before .before .before .before .before .before .before .before .before .before .before .before .before in
-    fine-open (questionOf (s .args .q)) (s .pre .1) (s .args .asked) (s .args .number) (s .pre .2) _ (c .before .before .before .before .outline .ensures)
+    fine-open (questionOf (s .args .q)) (s .pre .1) (s .args .asked) (s .args .number) (s .pre .2) _ (c .before .before .before .before .outline .ensures .0)
 
 cast-put-refutation : tie.Need-cast-put-refutation
 cast-put-refutation c =
@@ -38,7 +38,7 @@ same-length c = search needs
 returns : tie.Need-returns
 returns c =
     let s = c .before .before .before .before .before .before .before .before .before .before .before .before .before .before .before .before .before .before .before in
-    sheet-no (questionOf (s .args .q)) (s .pre .1) (s .args .asked) (s .args .number) (s .pre .2) _ (c .before .before .before .before .before .before .before .before .before .outline .ensures) (c .before .before .before .before .first-leaf .result) (c .before .before .before .before .first-leaf .ensures) (now (s .args .room)) _ _ _ _ (c .before .before .before .before .before .before .before .before .before .before .before .before .before .before .before .before .put-header .ensures) (c .before .before .put-refutation .ensures)
+    sheet-no (questionOf (s .args .q)) (s .pre .1) (s .args .asked) (s .args .number) (s .pre .2) _ (c .before .before .before .before .before .before .before .before .before .outline .ensures .0) (c .before .before .before .before .first-leaf .result) (c .before .before .before .before .first-leaf .ensures) (now (s .args .room)) _ _ _ _ (c .before .before .before .before .before .before .before .before .before .before .before .before .before .before .before .before .put-header .ensures) (c .before .before .put-refutation .ensures)
 
 pub put-no-spec : {M : Type 1} → statement M
 put-no-spec =
