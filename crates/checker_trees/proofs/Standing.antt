@@ -6,7 +6,7 @@ use mathlib.Core.List.{List, [], _∷_, _++_, map}
 use native.Mathlib.Numerals.{add-one}
 use native.Mathlib.Omega.{arith}
 use lib.ListN.{length, getD, set, take, drop, drop-of-length-le}
-use lib.Seq.{drop-cons, set-set}
+use lib.Seq.{drop-cons}
 use lib.IntN.{ℤ}
 use Rattle.page_meaning.specs.Limits.{mostVertices}
 use Rattle.page_walks.specs.Grid.{Grid}
@@ -95,8 +95,8 @@ module _ (F : Formula) (truths : List ℕ) (g : Grid) (part : List ℕ) (at base
         pub left-bad : (number p : ℕ) → refused number (base + p) ≡ checkLeft F (todo - 1) (set truths d 1) (decide g (placeAt ls rs ms d) true) (base + (at + 1)) (drop (at + 1) part) → refused number (base + p) ≡ Here
         left-bad number p x = after-first (refused number (base + p)) x
 
-        pub left-both : (p : ℕ) (r : Outcome) → passed (base + p) (drop p part) ≡ checkLeft F (todo - 1) (set truths d 1) (decide g (placeAt ls rs ms d) true) (base + (at + 1)) (drop (at + 1) part) → r ≡ checkLeft F (todo - 1) (set (set truths d 1) d 0) (decide g (placeAt ls rs ms d) false) (base + p) (drop p part) → r ≡ Here
-        left-both p r x y = (rw (set-set truths d 1 0) at y) ∙ below 0 (base + p) (drop p part) ∙ after-first (passed (base + p) (drop p part)) x
+        pub left-both : (p : ℕ) (r : Outcome) → passed (base + p) (drop p part) ≡ checkLeft F (todo - 1) (set truths d 1) (decide g (placeAt ls rs ms d) true) (base + (at + 1)) (drop (at + 1) part) → r ≡ checkLeft F (todo - 1) (set truths d 0) (decide g (placeAt ls rs ms d) false) (base + p) (drop p part) → r ≡ Here
+        left-both p r x y = y ∙ below 0 (base + p) (drop p part) ∙ after-first (passed (base + p) (drop p part)) x
 
 -- with every place left the check is that of the whole tree
 pub left-all : (F : Formula) (todo : ℕ) (truths : List ℕ) (at : ℕ) (bs : List ℕ) → todo ≡ length (places (F .program)) → checkLeft F todo truths (start mostVertices (F .ranges)) at bs ≡ checkTree mostVertices F at bs

@@ -6,9 +6,9 @@ use facts::decide;
 use limits::PLACES;
 use limits::VERTICES;
 ghost use mathlib.Core.Path.{_≡_};
-ghost use Prim.Native.Nat.{ℕ, _+_, _≤_};
-ghost use lib.ListN.{length, drop};
-ghost use Rattle.page_meaning.specs.Limits.{mostVertices};
+ghost use Prim.Native.Nat.{ℕ, _+_, _-_, _≤_, _<_};
+ghost use lib.ListN.{length, drop, set};
+ghost use Rattle.page_meaning.specs.Limits.{mostVertices, mostDecisions};
 ghost use Rattle.page_walks.specs.Grid.{farN};
 ghost use Rattle.page_walks.specs.Sizes.{Sized, AllWithin};
 ghost use Rattle.page_formulas.specs.Formulas.{Formula};
@@ -20,6 +20,20 @@ pub struct Stage {
     pub at: usize,
     pub truths: [u8; PLACES],
     pub todo: usize,
+}
+
+// The stage after one decision more.
+fn below(stage: Stage, at: usize, decided: usize, truth: u8) -> Stage
+    requires { ⌜ (decided < mostDecisions) × (0 < stage .todo) ⌝ }
+    ensures { λ r. ⌜ r ≡ record { at = at; truths = set (stage .truths) decided truth; todo = stage .todo - 1 } ⌝ }
+{
+    let mut truths = stage.truths;
+    truths[decided] = truth;
+    Stage {
+        at,
+        truths,
+        todo: stage.todo - 1,
+    }
 }
 
 // The tree at a stage: the first `truths` are the decisions of the places before those left, and the grid holds the facts so far.
@@ -61,26 +75,13 @@ pub fn tree(
     let a = left[decided];
     let b = right[decided];
     let k = most[decided];
-    let after = at + 1;
-    let less = todo - 1;
-    let mut next = truths;
-    next[decided] = 1;
     let yes = decide(*g, a, b, k, true);
-    let first = Stage {
-        at: after,
-        truths: next,
-        todo: less,
-    };
+    let first = below(stage, at + 1, decided, 1);
     let one = tree(kinds, left, right, most, shown, part, &yes, first);
     match one {
         Past::At(p) => {
-            next[decided] = 0;
             let no = decide(*g, a, b, k, false);
-            let second = Stage {
-                at: p,
-                truths: next,
-                todo: less,
-            };
+            let second = below(stage, p, decided, 0);
             tree(kinds, left, right, most, shown, part, &no, second)
         }
         Past::Refused(number, p) => Past::Refused(number, p),
