@@ -5,7 +5,7 @@ use outcome::Judged;
 use outcome::Written;
 use question::types::Answer;
 use verdicts::verdict::judge;
-use writer::finishing::finish;
+use writer::finish;
 ghost use mathlib.Core.Path.{_≡_};
 ghost use Rattle.page_sheets.specs.Answers.{verdictOf, writeOf, checkOf};
 ghost use Rattle.outcome.specs.Told.{judgedOf, doneOf};

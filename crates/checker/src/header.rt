@@ -1,6 +1,6 @@
 // The fields before the trees or the rows, in order: each is tested for length, then for its value.
-use crate::no::no_sheet;
-use crate::yes::yes_sheet;
+use checker_no::no_sheet;
+use checker_yes::yes_sheet;
 use outcome::Judged;
 use question::types::Question;
 ghost use mathlib.Core.Path.{_≡_};

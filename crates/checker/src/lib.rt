@@ -1,4 +1,2 @@
 // The check of a sheet for a question that was read.
 pub mod header;
-mod no;
-mod yes;

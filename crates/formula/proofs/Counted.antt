@@ -16,7 +16,8 @@ use Rattle.question.specs.Held.{rowOf, rangesOf, widthsOf, conditionOf, questio
 use Rattle.question.specs.declared.types.Question.{Question}
 use Rattle.question.specs.declared.types.Verb.the-variants.{Insert, Delete, Modify}
 use Rattle.page_formulas.specs.Formulas as F
-use Rattle.formula.specs.Able.{Able, Widths, settledModes}
+use Rattle.formula_deeds.specs.Deeds.{Able, settledModes}
+use Rattle.formula.specs.Formulas.{Widths}
 use Rattle.formula.proofs.Numbered.{lists, by}
 
 tables-length : (ws : List ℕ) (gs : List Range) → length (tablesOf ws gs) ≡ length ws

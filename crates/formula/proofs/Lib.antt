@@ -1,7 +1,4 @@
-pub mod Fills
-pub mod Views
-pub mod Parts
-pub mod Grounds
+pub mod Ranges
 pub mod Numbered
 pub mod Ready
 pub mod Counted

@@ -24,10 +24,13 @@ use Rattle.program.specs.Built.{Means}
 use Rattle.sights.specs.Seen.{modesOf}
 use Rattle.program.specs.Compiled.{Compiled, Spans}
 use Rattle.program.specs.declared.types.Formula as compiled
-use Rattle.formula.specs.Able.{Able, Buildable, formulaAt, noRow, firstOf, restOf, lineBy, lineFor, conditionFor, modesFor, rowsOf, wordsOf, Numbered, Tabled, Done}
-use Rattle.formula.specs.declared.types.Line as declared
-use Rattle.formula.specs.declared.types.Deed as types
-use Rattle.formula.proofs.Fills.{map-at}
+use Rattle.formula_lines.specs.Lines.{firstOf, restOf, lineBy, lineFor, Numbered, Tabled}
+use Rattle.formula_deeds.specs.Deeds.{Able, Buildable, noRow, conditionFor, modesFor, Done}
+use Rattle.formula_claims.specs.Claims.{rowsOf, wordsOf}
+use Rattle.formula.specs.Formulas.{formulaAt}
+use Rattle.formula_lines.specs.declared.types.Line as declared
+use Rattle.formula_deeds.specs.declared.deeds.Deed as types
+use Rattle.formula_deeds.proofs.Fills.{map-at}
 
 pub change-is : (q : Question) → questionOf q .change ≡ changeOf (q .shape .width) (q .change)
 unfolding questionOf questionFrom
@@ -103,10 +106,6 @@ pub found : (q : Question) (asked i : ℕ) → Buildable (q .change .verb) q →
 found q asked i a h =
     let e = by q asked (q .change .verb) refl in
     subst (Found q (q .change .verb) (eqb asked 1) i) (sym e) (found-by q i (q .change .verb) (eqb asked 1) a (subst (λ l. i < length l) e h))
-
--- a declared line is the table's, by what was asked and its number
-pub tabled : {r : declared.Line} (v : Verb) (b k : Bool) (i j : ℕ) → b ≡ k → i ≡ j → Tabled r (lineFor v k j) → Tabled r (lineFor v b i)
-tabled {r} v b k i j e h t = subst (λ b. Tabled r (lineFor v b i)) (sym e) (subst (λ i. Tabled r (lineFor v k i)) (sym h) t)
 
 -- ---- every line finds room
 

@@ -11,7 +11,7 @@ use Rattle.question.specs.declared.types.Question.{Question}
 use Rattle.question.specs.declared.types.Verb.{Verb}
 use Rattle.question.specs.declared.types.Verb.the-variants.{Insert, Delete, Modify}
 use Rattle.sights.specs.Seen.{There, Whole}
-use Rattle.formula.specs.Able.{Able, Chooses, Buildable, settledModes}
+use Rattle.formula_deeds.specs.Deeds.{Able, Chooses, Buildable, settledModes}
 use Rattle.formula.proofs.Numbered.{change-is}
 use Rattle.sights.proofs.Shapes.{columns-length, condition-is}
 use Rattle.page_formulas.proofs.Usable.{Exists, ChangeUsable, usable}

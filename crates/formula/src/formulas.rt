@@ -1,7 +1,7 @@
 // A formula of a question by its number.
-use crate::claims::line_of;
-use crate::deeds::deed_of;
-use crate::lines::line_at;
+use formula_claims::claims::line_of;
+use formula_deeds::deeds::deed_of;
+use formula_lines::lines::line_at;
 use limits::INSTRUCTIONS;
 use limits::PLACES;
 use program::types::Outline;
@@ -16,7 +16,9 @@ ghost use Rattle.page_questions.specs.Accepted.{Accepted};
 ghost use Rattle.page_formulas.specs.Formulas.{formulas};
 ghost use Rattle.program.specs.Built.{programOf, Long};
 ghost use Rattle.program.specs.Compiled.{Compiled, formulaOf};
-ghost use Rattle.formula.specs.Able.{Able, Widths, begun, formulaAt};
+ghost use Rattle.formula_deeds.specs.Deeds.{Able};
+ghost use Rattle.formula_claims.specs.Claims.{begun};
+ghost use Rattle.formula.specs.Formulas.{Widths, formulaAt};
 
 // Formula i of an accepted question, its program written into the lent arrays.
 pub fn outline(

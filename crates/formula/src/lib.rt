@@ -1,6 +1,2 @@
 // The formulas of a question as programs over vertices, by one table (FORMAT 5.3): page_formulas' specs/Formulas says what they are.
-pub mod claims;
-pub mod deeds;
 pub mod formulas;
-pub mod lines;
-pub mod types;

@@ -10,18 +10,17 @@ use Rattle.page_questions.specs.Accepted.{Accepted}
 use Rattle.page_meaning.specs.Contents.{Question}
 use Rattle.page_formulas.specs.Formulas.{Formula, noFormula, formulas}
 use Rattle.page_formulas.specs.Program.{truth}
-use Rattle.page_formulas.specs.Proper.{Proper}
-use Rattle.page_formulas.proofs.Proper.{formulas-proper}
-use Rattle.formula.specs.Able.{formulaAt}
+use Rattle.formula.specs.Formulas.{formulaAt}
+use Rattle.formula.proofs.Fines.{proper-at}
 use Rattle.page_sheets.specs.Sheet.{lastVertex, sayYes, sayNo, verdictFor, findingOf}
 use Rattle.page_sheets.specs.Tree.{Tree}
 use Rattle.page_sheets.specs.Trees.{Finding, allShut, firstOpen}
-use Rattle.page_sheets.proofs.Findings.{Fails, all-at}
+use Rattle.page_sheets.proofs.Findings.{Fails}
 use Rattle.page_sheets.proofs.Fit.{fit}
 use Rattle.page_sheets.proofs.Grows.{fails-shut, holds-open}
 use Rattle.page_sheets.proofs.Positions.{ShutBefore, shut-more, found-open, found-shut}
 use Rattle.goals.specs.Goals.{held, Opens, TrueAt}
-use Rattle.verdicts.specs.Finding.{Finds, Shown}
+use Rattle.verdicts.specs.Finding.{Finds}
 use Rattle.verdicts.specs.declared.openings.Found.{Found}
 
 -- no values: it fails on all of them
@@ -36,9 +35,6 @@ module _ (q : Question) (ok : Accepted q) (a : ℕ) where
   abbrev Fs : List Formula
   Fs = formulas q a
 
-  pub proper-at : (i : ℕ) → i < length Fs → Proper (formulaAt Fs i)
-  proper-at i h = all-at Proper Fs (formulas-proper q ok a) i noFormula h
-
   -- ---- the search: those before formula i are shut
   abbrev pub Passed : ℕ → Type 0
   Passed i = (us : List Tree) × ShutBefore lastVertex Fs i us
@@ -46,14 +42,14 @@ module _ (q : Question) (ok : Accepted q) (a : ℕ) where
   module _ (i : ℕ) (w : Passed i) (h : i < length Fs) (answer : Bool) (l : List ℤ) (o : Opens answer l (TrueAt (formulaAt Fs i))) where
     pub passed-more : answer ≡ false → Passed (i + 1)
     passed-more e =
-        let s = fails-shut lastVertex (formulaAt Fs i) (fit (formulaAt Fs i) (proper-at i h)) (never (formulaAt Fs i) answer l e o) in
+        let s = fails-shut lastVertex (formulaAt Fs i) (fit (formulaAt Fs i) (proper-at q ok a i h)) (never (formulaAt Fs i) answer l e o) in
         (w .0 ++ s .0 ∷ [], subst (λ n. ShutBefore lastVertex Fs n (w .0 ++ s .0 ∷ [])) (sym (add-one i)) (shut-more lastVertex Fs i (w .0) noFormula (s .0) (w .1) h (s .1)))
 
     pub found-first : answer ≡ true → (r : Found) → r .open ≡ true → r .number ≡ i → Finds (findingOf q a) r
     unfolding findingOf
     found-first e r ro rn =
         let t = subst (λ b. Opens b l (TrueAt (formulaAt Fs i))) e o in
-        let x = holds-open lastVertex (formulaAt Fs i) (fit (formulaAt Fs i) (proper-at i h)) (held l) (t .0) (t .1) in
+        let x = holds-open lastVertex (formulaAt Fs i) (fit (formulaAt Fs i) (proper-at q ok a i h)) (held l) (t .0) (t .1) in
         rw (found-open lastVertex Fs i (w .0) noFormula (x .0) (w .1) h (x .1)) (ro, rn)
 
   pub found-none : (i : ℕ) → Passed i → i ≡ length Fs → (r : Found) → r .open ≡ false → Finds (findingOf q a) r

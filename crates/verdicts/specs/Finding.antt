@@ -5,7 +5,7 @@ use mathlib.Core.Bool.{true, false}
 use Rattle.page_meaning.specs.Contents.{Question}
 use Rattle.page_formulas.specs.Formulas.{formulas}
 use Rattle.page_sheets.specs.Trees.{Finding, allShut, firstOpen}
-use Rattle.formula.specs.Able.{formulaAt}
+use Rattle.formula.specs.Formulas.{formulaAt}
 use Rattle.goals.specs.Goals.{held, TrueAt}
 use Rattle.verdicts.specs.declared.openings.Found.{Found}
 

@@ -12,7 +12,7 @@ use Rattle.page_sheets.specs.Answers.{wrote, unwritten, placed}
 use Rattle.page_sheets.specs.Sheet.{verdictFor, findingOf, sheetOf}
 use Rattle.page_sheets.proofs.Fit.{to-true, to-false}
 use Rattle.writer.specs.Laying.{StandsIf, Lays}
-use Rattle.writer.specs.declared.laying.Laid.{Laid}
+use Rattle.writer.specs.declared.Laid.{Laid}
 
 module _ (q : Question) (a : ℕ) (old new : List ℕ) (r : Laid) (h : Lays old q a (findingOf q a) new r) where
   stands : (b : Bool) → r .spot .over ≡ b → StandsIf b (sheetOf q a) new (r .spot .at)

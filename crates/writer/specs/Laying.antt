@@ -6,27 +6,9 @@ use mathlib.Core.List.{List}
 use lib.ListN.{length, take}
 use Rattle.page_meaning.specs.Contents.{Question}
 use Rattle.outcome.specs.Told.{verdictOf}
-use Rattle.page_formulas.specs.Formulas.{Formula}
-use Rattle.page_formulas.specs.Program.{Values}
-use Rattle.page_sheets.specs.Sheet.{sheetFor, verdictFor, findingOf}
-use Rattle.page_sheets.specs.Tree.{Tree}
-use Rattle.page_sheets.specs.Trees.{Finding, allShut, firstOpen}
-use Rattle.room.specs.declared.Spot.{Spot}
-use Rattle.writer.specs.declared.laying.Laid.{Laid}
-
--- the start of a room
-abbrev pub atStart : Spot
-atStart = record { at = 0; over = false }
-
--- every formula is shut
-abbrev pub AllShut : Question → ℕ → Type 0
-AllShut q a = (ts : List Tree) × (findingOf q a ≡ allShut ts)
-
--- formula i is the first that is open
-pub record OpenFirst (q : Question) (a i : ℕ) : Type 0 where
-  pub formula : Formula
-  pub values : Values
-  pub finding : findingOf q a ≡ firstOpen i formula values
+use Rattle.page_sheets.specs.Sheet.{sheetFor, verdictFor}
+use Rattle.page_sheets.specs.Trees.{Finding}
+use Rattle.writer.specs.declared.Laid.{Laid}
 
 -- the sheet stands at the start of the room and ends at this spot; or it is longer than the room
 abbrev pub StandsIf : Bool → List ℕ → List ℕ → ℕ → Type 0

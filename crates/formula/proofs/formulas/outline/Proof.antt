@@ -6,8 +6,8 @@ use Rattle.page_formulas.specs.Costs.{Fits}
 use Rattle.page_formulas.specs.Formulas as F
 use Rattle.program.specs.Compiled.{Spans}
 use Rattle.sights.specs.Seen.{Whole}
-use Rattle.formula.specs.Able.{Buildable}
-use Rattle.formula.proofs.Grounds.{ranges-same}
+use Rattle.formula_deeds.specs.Deeds.{Buildable}
+use Rattle.formula.proofs.Ranges.{ranges-same}
 use Rattle.formula.proofs.Numbered.{Found, found, line-fits, written}
 use Rattle.formula.proofs.Ready.{buildable}
 use Rattle.formula.proofs.formulas.outline.Statement.{statement}

@@ -11,9 +11,11 @@ use Rattle.page_questions.specs.Accepted.{Accepted}
 use Rattle.page_formulas.specs.Formulas.{formulas}
 use Rattle.page_formulas.specs.Proper.{Proper}
 use Rattle.program.specs.Built.{programOf, Long}
-use Rattle.formula.specs.Able.{begun, formulaAt}
+use Rattle.formula_claims.specs.Claims.{begun}
+use Rattle.formula.specs.Formulas.{formulaAt}
 use Rattle.goals.specs.Goals.{Opens, TrueAt}
-use Rattle.verdicts.proofs.Finds.{proper-at, Passed, passed-more, found-first, found-none}
+use Rattle.formula.proofs.Fines.{proper-at}
+use Rattle.verdicts.proofs.Finds.{Passed, passed-more, found-first, found-none}
 use Rattle.verdicts.proofs.openings.first_open.Statement.{statement}
 use Rattle.verdicts.proofs.openings.first_open.Tie as tie
 
