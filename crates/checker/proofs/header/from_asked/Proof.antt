@@ -12,7 +12,9 @@ shared-slice-read-if2 : tie.Need-shared-slice-read-if2
 shared-slice-read-if2 c = search needs
 
 returns-2 : tie.Need-returns-2
-returns-2 c = rw (le-leb _ _ (c .before .before .if1 .left), ne-eqb _ _ (c .if2 .taken))
+returns-2 c =
+    let a = c .before .before .before .before .args in
+    rw (le-leb _ _ (c .before .before .if1 .left), ne-eqb (getD (a .sheet .now) 5 0) (a .asked) (c .if2 .taken))
 
 returns-3 : tie.Need-returns-3
 returns-3 c = rw (le-leb _ _ (c .before .before .before .if1 .left), eq-eqb _ _ (c .before .if2 .left), lt-leb _ _ (c .if3 .taken))

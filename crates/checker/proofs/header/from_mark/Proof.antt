@@ -1,4 +1,6 @@
+use Prim.Native.Nat.{_+_, _*_}
 use native.Mathlib.Omega.{arith}
+use lib.ListN.{getD}
 use borrow.Author.Tests.{le-leb, lt-leb, ne-eqb}
 use Rattle.page_sheets.specs.Sheet.{checkSheet}
 use borrow.Author.Needs.{needs}
@@ -66,7 +68,8 @@ returns-6 c =
     let r = c .before .before .before in
     let p = r .before .before .before in
     let o = p .before .before in
-    rw (le-leb _ _ (o .before .before .if1 .left), o .if2 .left, p .if3 .left, r .before .if4 .left, le-leb _ _ (r .if5 .left), ne-eqb _ _ (c .if6 .taken))
+    let s = o .before .before .before .before .args .sheet .now in
+    rw (le-leb _ _ (o .before .before .if1 .left), o .if2 .left, p .if3 .left, r .before .if4 .left, le-leb _ _ (r .if5 .left), ne-eqb (getD s 3 0 + 256 * getD s 4 0) 1 (c .if6 .taken))
 
 from-asked-requires : tie.Need-from-asked-requires
 from-asked-requires c κs = search needs
