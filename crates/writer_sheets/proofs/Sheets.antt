@@ -30,7 +30,7 @@ use Rattle.room.specs.declared.Spot.{Spot}
 use Rattle.room.proofs.Puts.{puts-append}
 use Rattle.writer_rows.specs.Rows.{Rowed, Alike}
 use Rattle.writer_rows.proofs.ShownFormulas.{rows-there}
-use Rattle.writer_trees.specs.Leaves.{FineOpen, Leaf}
+use Rattle.writer_leaves.specs.Leaves.{FineOpen, Leaf}
 use Rattle.writer_sheets.specs.Starts.{atStart, AllShut, OpenFirst}
 
 -- ---- how many formulas there are: their numbers are bytes

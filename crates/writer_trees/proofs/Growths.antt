@@ -3,10 +3,10 @@ use Prim.Native.Nat.{ℕ, suc, _≤_, _<_}
 use mathlib.Core.Path.{_≡_, refl, sym, ap, _∙_}
 use mathlib.Core.Bool.{Bool, true, false, cond}
 use mathlib.Core.Option.{Option, none, some}
-use mathlib.Core.List.{List, [], _∷_}
+use mathlib.Core.List.{List}
 use native.Mathlib.Omega.{arith}
 use lib.Dec.{T, eqb, eqb→eq}
-use lib.ListN.{length, take}
+use lib.ListN.{take}
 use lib.IntN.{ℤ, pos, negsuc, _+ℤ_}
 use lib.Signed.{_≤ℤ_, ltZ}
 use Rattle.page_numbers.specs.Numbers.{up, dn}
@@ -27,8 +27,7 @@ use Rattle.page_sheets.specs.Grow.{Growth, shut, openAt, join}
 use Rattle.room.specs.Room.{Filling, filling, putOne, puts}
 use Rattle.goals.specs.Closed.{Tight, Closer}
 use Rattle.goals.proofs.Tightens.{closer-tabled}
-use Rattle.writer_trees.specs.Trees.{Grows, Ready, cutBytes}
-use Rattle.writer_trees.specs.Leaves.{with}
+use Rattle.writer_trees.specs.Trees.{Grows, Ready, cutBytes, with}
 use Rattle.grid.specs.Edges.{Fact, Kept}
 use Rattle.room.specs.declared.Spot.{Spot}
 use Rattle.page_sheets.proofs.Fasts.{Same}

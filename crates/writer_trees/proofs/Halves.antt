@@ -23,11 +23,10 @@ use Rattle.page_formulas.proofs.Knows.{known-kinds}
 use Rattle.program.specs.Lent.{Lent, placeAt}
 use Rattle.page_sheets.specs.Facts.{taken}
 use Rattle.page_sheets.specs.Fast.{calmNode, strainedNode, fast, sideOf, after}
-use Rattle.page_sheets.specs.Grow.{Growth, shut, openAt, join}
+use Rattle.page_sheets.specs.Grow.{Growth, openAt, join}
 use Rattle.page_sheets.specs.Tree.{bytesOf}
 use Rattle.room.specs.Room.{filling, putOne, puts}
-use Rattle.writer_trees.specs.Trees.{decisions, Grows, halfOf, Placing, Ready, cutBytes, fastAt, sideBy}
-use Rattle.writer_trees.specs.Leaves.{with}
+use Rattle.writer_trees.specs.Trees.{decisions, Grows, halfOf, Placing, Ready, cutBytes, fastAt, sideBy, with}
 use Rattle.writer_trees.specs.declared.trees.Edge.{Edge}
 use Rattle.writer_trees.specs.declared.trees.Half.{Half}
 use Rattle.writer_trees.specs.declared.trees.Node.{Node}

@@ -1,6 +1,6 @@
 -- What the root of a formula's tree is given: its facts and their closure are ready, and the fast rule from there is the writer's rule.
 use Prim.Native.Nat.{ℕ, suc, _<_}
-use mathlib.Core.Path.{_≡_, sym, subst}
+use mathlib.Core.Path.{_≡_, sym, ap, _∙_, subst}
 use mathlib.Core.Bool.{Bool}
 use mathlib.Core.List.{List, []}
 use native.Mathlib.Omega.{arith}
@@ -12,6 +12,7 @@ use Rattle.page_walks.specs.Sizes.{Sized}
 use Rattle.page_formulas.specs.Formulas.{Formula}
 use Rattle.page_formulas.specs.Program.{places}
 use Rattle.page_formulas.specs.Proper.{Proper}
+use Rattle.page_formulas.proofs.Trees.{kinds-length}
 use Rattle.page_sheets.specs.Facts.{start}
 use Rattle.page_sheets.specs.Fast.{fast}
 use Rattle.page_sheets.specs.Grow.{growTree}
@@ -32,6 +33,10 @@ use Rattle.room.specs.declared.Spot.{Spot}
 use Rattle.writer_trees.proofs.Growths.{grows-same}
 use Rattle.facts.proofs.Places.{lengths, place-facts}
 use Rattle.program.proofs.Ranges.{ranged}
+
+-- the kinds that are lent are as many as said
+pub kinds-long : (F : Formula) (kinds : List ℕ) (n : ℕ) (left right : List ℕ) (most : List ℤ) (few : ℕ) → Coded F kinds n left right most few → length (take n kinds) ≡ n
+kinds-long F kinds n left right most few c = ap length (c .lent .kinds) ∙ kinds-length (F .program) ∙ sym (c .n-is)
 
 -- the least sums of the ranges, as the code begins with them
 pub record Begun (F : Formula) (near : Grid) : Type 0 where

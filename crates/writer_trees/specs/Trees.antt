@@ -7,7 +7,8 @@ use lib.ListN.{length, take, drop, set}
 use lib.IntN.{ℤ}
 use Rattle.page_meaning.specs.Limits.{mostVertices, mostDecisions}
 use Rattle.page_walks.specs.Grid.{Grid, weight, tighten}
-use Rattle.page_walks.specs.Sizes.{Sized}
+use Rattle.page_walks.specs.Sizes.{Sized, tabled}
+use Rattle.page_walks.specs.Near.{relax}
 use Rattle.page_formulas.specs.Program.{Place, places}
 use Rattle.truth.specs.Cells.{bit}
 use Rattle.page_formulas.specs.Formulas.{Formula}
@@ -41,6 +42,10 @@ cutBytes (openAt x) = []
 -- the rest of a formula's rule from a node on, where so many of its places are decided and no cycle is negative
 abbrev pub fastAt : ℕ → Formula → ℕ → List ℕ → Grid → Grid → Growth
 fastAt last F decided truths g near = fast last F (drop decided (places (F .program))) (decisions truths decided) g (weight near)
+
+-- one fact more, an edge of weight k, and its closure
+abbrev pub with : ℕ → Grid → ℕ → ℕ → ℤ → Grid
+with last near from to k = tabled (relax (weight near) from to k) (suc last) near
 
 -- half of a branch of so many places, from its fact
 abbrev pub sideBy : Formula → ℕ → Grid → Grid → Half → Growth

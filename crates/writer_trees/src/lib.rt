@@ -1,3 +1,2 @@
-// A formula's tree, by the writer's rule, and its first open leaf.
-pub mod leaves;
+// A formula's tree, by the writer's rule.
 pub mod trees;

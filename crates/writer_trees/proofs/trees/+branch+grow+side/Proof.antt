@@ -25,7 +25,6 @@ use Rattle.page_sheets.specs.Facts.{taken}
 use Rattle.grid.specs.Edges.{Fact}
 use Rattle.goals.proofs.Tightens.{tight-within}
 use Rattle.writer_trees.specs.Trees.{Ready, sideBy}
-use Rattle.writer_trees.specs.declared.trees.Edge.{Edge}
 use Rattle.writer_trees.specs.declared.trees.Half.{Half}
 use Rattle.writer_trees.proofs.Halves.{grows-false, grows-true, grows-end, branch-both, side-cut, side-calm}
 use Rattle.writer_trees.proofs.Growths.{fact-bounded, fact-fits, ready-handed, grows-over}

@@ -1,6 +1,6 @@
 use native.Mathlib.Omega.{arith}
 use Prim.Native.Nat.{_-_}
-use mathlib.Core.Path.{_≡_, sym, _∙_}
+use mathlib.Core.Path.{_≡_, sym}
 use denote.Ref.{now}
 use lib.ListN.{length, take}
 use Rattle.page_meaning.specs.Limits.{mostVertices}
@@ -13,8 +13,7 @@ use Rattle.program.specs.Compiled.{Compiled, formulaOf}
 use Rattle.program.proofs.Lends.{small-spans, spanned-of}
 use Rattle.program.proofs.Ranges.{coded-of, ranging-of, ranged}
 use Rattle.facts.proofs.Places.{lengths}
-use Rattle.writer_trees.proofs.Plants.{Begun, begun-of, root-ready, root-grows}
-use Rattle.writer_trees.proofs.Roots.{kinds-long}
+use Rattle.writer_trees.proofs.Plants.{Begun, begun-of, root-ready, root-grows, kinds-long}
 use borrow.Author.Needs.{needs}
 use Rattle.writer_trees.proofs.trees.plant_formula.Statement.{statement}
 use Rattle.writer_trees.proofs.trees.plant_formula.Tie as tie

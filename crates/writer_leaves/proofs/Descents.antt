@@ -25,13 +25,13 @@ use Rattle.program.specs.Lent.{Lent, placeAt}
 use Rattle.program.proofs.Lends.{lent-most, lent-place}
 use Rattle.page_sheets.specs.Facts.{taken, decide}
 use Rattle.page_sheets.specs.Fast.{calmNode, fast, after}
-use Rattle.page_sheets.specs.Grow.{Growth, shut, openAt}
+use Rattle.page_sheets.specs.Grow.{Growth, openAt}
 use Rattle.page_sheets.proofs.Fasts.{UpTo, Same, same-trans, same-open}
 use Rattle.page_sheets.proofs.FastAmong.{SameBelow, fast-table}
 use Rattle.page_sheets.proofs.Steps.{fast-end}
 use Rattle.page_sheets.proofs.Descends.{Down, TrueIn, down-next, down-table, true-table, table-true, leaf-known, leaf-false, TrueShut, down-true, down-false}
 use Rattle.writer_trees.specs.Trees.{decisions, Placing, fastAt}
 use Rattle.writer_trees.proofs.Halves.{known-lent, all-ends, closer-same}
 
 module _ (last : ℕ) (F : Formula) where
   -- on the way to the leaf of values x: the first places are decided, and the fast rule leads there from here

@@ -1,13 +1,13 @@
 -- The descent as the code makes it: one fact more is tried, and the loop goes on where the formula is open.
 use Prim.Native.Nat.{ℕ, suc, _<_}
 use mathlib.Core.Path.{_≡_, refl, sym, ap, _∙_, subst}
-use mathlib.Core.Logic.{_⊎_, inl, inr, _≢_}
+use mathlib.Core.Logic.{inl, inr, _≢_}
 use mathlib.Core.Bool.{Bool, true, false, true≢false}
 use mathlib.Core.List.{List}
 use native.Mathlib.Omega.{arith}
 use lib.ListN.{length, set}
 use lib.IntN.{ℤ, pos, _+ℤ_}
-use lib.Signed.{_≤ℤ_, _<ℤ_}
+use lib.Signed.{_≤ℤ_}
 use Rattle.page_meaning.specs.Limits.{mostVertices, mostDecisions}
 use Rattle.page_walks.specs.Grid.{Grid, weight}
 use Rattle.page_walks.specs.Sizes.{Sized}
@@ -17,20 +17,15 @@ use Rattle.page_formulas.specs.Kinds.{knownKinds}
 use Rattle.page_formulas.specs.Program.{Program, Values, Place}
 use Rattle.program.specs.Lent.{placeAt}
 use Rattle.page_sheets.specs.Facts.{taken}
-use Rattle.page_sheets.specs.Fast.{fast}
-use Rattle.page_sheets.specs.Grow.{openAt}
-use Rattle.page_sheets.proofs.Fasts.{Same}
 use Rattle.page_sheets.proofs.Descends.{TrueIn}
-use Rattle.grid.specs.Edges.{Fact}
 use Rattle.goals.specs.Closed.{Tight}
 use Rattle.goals.proofs.Tightens.{tight-least}
-use Rattle.program_tree.specs.Nodes.{Tells}
+use Rattle.program_tree.specs.Nodes.{Tells, Tree}
 use Rattle.goals.specs.Goals.{Opens, held, TrueUnder}
-use Rattle.program_tree.specs.Nodes.{Tree}
-use Rattle.writer_trees.specs.Trees.{decisions, fastAt}
-use Rattle.writer_trees.specs.Leaves.{passing, with, Tries, Opening, Descendable}
+use Rattle.writer_trees.specs.Trees.{decisions, with}
+use Rattle.writer_leaves.specs.Leaves.{passing, Tries, Opening, Descendable}
 use Rattle.writer_trees.proofs.Growths.{with-closer}
-use Rattle.writer_trees.proofs.Descents.{Leading, leading-start, leading-true, NotTrue, calm-false, leading-false}
+use Rattle.writer_leaves.proofs.Descents.{Leading, leading-start, leading-true, NotTrue, calm-false, leading-false}
 
 pub passing-is : (k : Three) → passing k ≡ true → k ≡ passes
 passing-is fails e = absurd (true≢false (sym e))

@@ -1,5 +1,5 @@
 use native.Mathlib.Omega.{arith}
-use Prim.Native.Nat.{suc, _-_}
+use Prim.Native.Nat.{_-_}
 use mathlib.Core.Path.{_≡_, refl, sym}
 use denote.Ref.{now}
 use lib.ListN.{length}
@@ -14,11 +14,11 @@ use Rattle.page_meaning.specs.Limits.{mostVertices}
 use Rattle.page_walks.proofs.Rows.{sized}
 use Rattle.program_tree.specs.Nodes.{treeOf, Tells}
 use Rattle.program_tree.proofs.Trees.{plantable, tells}
-use Rattle.writer_trees.proofs.Plants.{Begun, begun-of}
-use Rattle.writer_trees.proofs.Roots.{kinds-long, root-opening, root-values, root-descendable, root-leaf}
+use Rattle.writer_trees.proofs.Plants.{Begun, begun-of, kinds-long}
+use Rattle.writer_leaves.proofs.Roots.{root-opening, root-values, root-descendable, root-leaf}
 use borrow.Author.Needs.{needs}
-use Rattle.writer_trees.proofs.leaves.first_leaf.Statement.{statement}
-use Rattle.writer_trees.proofs.leaves.first_leaf.Tie as tie
+use Rattle.writer_leaves.proofs.first_leaf.Statement.{statement}
+use Rattle.writer_leaves.proofs.first_leaf.Tie as tie
 
 -- the formula that is lent
 abbrev given : tie.Start → compiled.Formula

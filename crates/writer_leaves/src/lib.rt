@@ -1,7 +1,5 @@
 // A formula's first open leaf, by going down once: at each node into the true half where the formula is open there, else into the false
 // half. The tableau tells, so no tree is walked.
-use crate::trees::Edge;
-use crate::trees::known_so_far;
 use closure::relax_in;
 use grid::edge;
 use ints::weights::negation;
@@ -15,6 +13,8 @@ use program_tree::types::ROW;
 use spreads::begin;
 use tableau::openings::opens_under;
 use truth::knowing::Truth;
+use writer_trees::trees::Edge;
+use writer_trees::trees::known_so_far;
 ghost use mathlib.Core.Path.{_≡_};
 ghost use Prim.Native.Nat.{suc, _<_};
 ghost use lib.Dec.{T};
@@ -27,7 +27,7 @@ ghost use Rattle.program.specs.Compiled.{Compiled, formulaOf};
 ghost use Rattle.page_sheets.specs.Grow.{growTree, openAt};
 ghost use Rattle.page_sheets.specs.Sheet.{lastVertex};
 ghost use Rattle.program_tree.specs.Nodes.{treeOf, Tells};
-ghost use Rattle.writer_trees.specs.Leaves.{passing, Tries, Triable, Opening, Descendable, Leaf, FineOpen};
+ghost use Rattle.writer_leaves.specs.Leaves.{passing, Tries, Triable, Opening, Descendable, Leaf, FineOpen};
 
 // Is the formula known to be true?
 fn passes(t: Truth) -> bool

@@ -9,8 +9,7 @@ use lib.IntN.{ℤ, pos, _+ℤ_}
 use lib.Signed.{_≤ℤ_, _<ℤ_}
 use Rattle.page_meaning.specs.Limits.{mostVertices}
 use Rattle.page_walks.specs.Grid.{Grid, weight}
-use Rattle.page_walks.specs.Sizes.{Sized, tabled}
-use Rattle.page_walks.specs.Near.{relax}
+use Rattle.page_walks.specs.Sizes.{Sized}
 use Rattle.page_formulas.specs.Formulas.{Formula}
 use Rattle.page_formulas.specs.Known.{Three, fails, passes, open?}
 use Rattle.page_formulas.specs.Program.{Program, Values}
@@ -22,20 +21,15 @@ use Rattle.program.specs.declared.types.Formula as compiled
 use Rattle.page_sheets.specs.Grow.{openAt, growTree}
 use Rattle.page_sheets.specs.Sheet.{lastVertex}
 use Rattle.goals.specs.Closed.{Tight}
-use Rattle.program_tree.specs.Nodes.{Tells}
+use Rattle.program_tree.specs.Nodes.{Tells, Tree}
 use Rattle.goals.specs.Goals.{TrueUnder}
-use Rattle.program_tree.specs.Nodes.{Tree}
 use Rattle.grid.specs.Edges.{Fact}
-use Rattle.writer_trees.specs.Trees.{Placing, fastAt}
+use Rattle.writer_trees.specs.Trees.{with, Placing, fastAt}
 
 abbrev pub passing : Three → Bool
 passing fails = false
 passing passes = true
 passing open? = false
-
--- one fact more, an edge of weight k, and its closure
-abbrev pub with : ℕ → Grid → ℕ → ℕ → ℤ → Grid
-with last near from to k = tabled (relax (weight near) from to k) (suc last) near
 
 -- it was tried: the program is true at some values that meet the facts and this one; or at none, if it closes no negative cycle at all
 abbrev pub Tries : Bool → Program → ℕ → Grid → ℕ → ℕ → ℤ → Grid → Type 0

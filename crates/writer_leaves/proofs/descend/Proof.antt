@@ -1,7 +1,7 @@
 -- Before place i the facts so far lead to the leaf.
 use native.Mathlib.Omega.{arith}
 use native.Mathlib.Numerals.{add-one}
-use Prim.Native.Nat.{suc, _-_, _≤_, _<_}
+use Prim.Native.Nat.{suc, _-_, _≤_}
 use mathlib.Core.Path.{_≡_, refl, sym, ap, _∙_, subst}
 use mathlib.Core.Bool.{true, false}
 use denote.Ref.{now}
@@ -20,14 +20,14 @@ use Rattle.program_tree.specs.Nodes.{treeOf}
 use Rattle.page_sheets.specs.Facts.{taken}
 use Rattle.grid.specs.Edges.{Fact}
 use Rattle.goals.proofs.Tightens.{tight-within}
 use Rattle.writer_trees.specs.Trees.{decisions}
-use Rattle.writer_trees.specs.Leaves.{passing}
+use Rattle.writer_leaves.specs.Leaves.{passing}
 use Rattle.writer_trees.proofs.Growths.{fact-bounded, fact-fits}
-use Rattle.writer_trees.proofs.Descents.{leading-leaf, leading-end}
-use Rattle.writer_trees.proofs.Tries.{passing-is, Going, going-start, going-true, going-false}
+use Rattle.writer_leaves.proofs.Descents.{leading-leaf, leading-end}
+use Rattle.writer_leaves.proofs.Tries.{passing-is, Going, going-start, going-true, going-false}
 use borrow.Author.Needs.{needs}
-use Rattle.writer_trees.proofs.leaves.descend.Statement.{statement}
-use Rattle.writer_trees.proofs.leaves.descend.Tie as tie
+use Rattle.writer_leaves.proofs.descend.Statement.{statement}
+use Rattle.writer_leaves.proofs.descend.Tie as tie
 
 abbrev Inv-loop : tie.InvT-loop
 Inv-loop kinds left right most nodes weights ext near₀ truths₀ i₀ near truths i = (i ≤ length most) × (length truths ≡ mostDecisions) × Going kinds left right most (treeOf nodes weights ext) near₀ i near truths

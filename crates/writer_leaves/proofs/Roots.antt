@@ -1,6 +1,6 @@
 -- The root of the descent: the closure of the ranges' facts, and the formula's tree.
 use Prim.Native.Nat.{ℕ, suc}
-use mathlib.Core.Path.{_≡_, refl, sym, ap, _∙_, subst}
+use mathlib.Core.Path.{_≡_, refl, sym, _∙_, subst}
 use mathlib.Core.List.{List, []}
 use native.Mathlib.Omega.{arith}
 use lib.ListN.{length, take}
@@ -10,7 +10,6 @@ use Rattle.page_walks.specs.Grid.{Grid}
 use Rattle.page_formulas.specs.Formulas.{Formula}
 use Rattle.page_formulas.specs.Program.{Values}
 use Rattle.page_formulas.specs.Proper.{Proper}
-use Rattle.page_formulas.proofs.Trees.{kinds-length}
 use Rattle.program.specs.Lent.{Coded}
 use Rattle.page_sheets.specs.Facts.{start}
 use Rattle.page_sheets.specs.Grow.{openAt, growTree}
@@ -18,16 +17,10 @@ use Rattle.page_sheets.specs.Sheet.{lastVertex}
 use Rattle.page_sheets.proofs.Fasts.{Here, UpTo, Same, same-open}
 use Rattle.page_sheets.proofs.Fit.{present-below}
 use Rattle.goals.specs.Closed.{Tight}
-use Rattle.program_tree.specs.Nodes.{Tells}
-use Rattle.program_tree.specs.Nodes.{Tree}
+use Rattle.program_tree.specs.Nodes.{Tells, Tree}
 use Rattle.writer_trees.specs.Trees.{Placing, fastAt}
-use Rattle.writer_trees.specs.Leaves.{Opening, Descendable, Leaf}
-use Rattle.writer_trees.proofs.Plants.{Begun, placing, planted-same}
-
--- ---- the parts that are lent are as long as said
-
-pub kinds-long : (F : Formula) (kinds : List ℕ) (n : ℕ) (left right : List ℕ) (most : List ℤ) (few : ℕ) → Coded F kinds n left right most few → length (take n kinds) ≡ n
-kinds-long F kinds n left right most few c = ap length (c .lent .kinds) ∙ kinds-length (F .program) ∙ sym (c .n-is)
+use Rattle.writer_leaves.specs.Leaves.{Opening, Descendable, Leaf}
+use Rattle.writer_trees.proofs.Plants.{kinds-long, Begun, placing, planted-same}
 
 module _ (F : Formula) (kinds : List ℕ) (n : ℕ) (left right : List ℕ) (most : List ℤ) (few : ℕ) (c : Coded F kinds n left right most few) (p : Proper F) (t : Tree) (tells : Tells t (F .program)) (last-is : t .last ≡ length (F .ranges)) (near : Grid) (s : Begun F near) where
   abbrev facts : Grid

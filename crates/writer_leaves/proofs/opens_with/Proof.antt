@@ -1,7 +1,7 @@
 use native.Mathlib.Omega.{arith}
 use native.Mathlib.Numerals.{add-one}
 use Prim.Native.Nat.{suc}
-use mathlib.Core.Path.{_≡_, sym, ap, ap₂, _∙_, subst}
+use mathlib.Core.Path.{_≡_, sym, ap₂, _∙_, subst}
 use mathlib.Core.Logic.{inl}
 use denote.Ref.{now}
 use lib.IntN.{_+ℤ_}
@@ -15,12 +15,12 @@ use Rattle.page_walks.proofs.Rows.{tabled-sized}
 use Rattle.page_walks.specs.Near.{relax, Triangle}
 use Rattle.goals.specs.Closed.{Tight}
 use Rattle.goals.proofs.Tightens.{tight-within, sum-fits, below-zero, from-zero}
-use Rattle.writer_trees.specs.Leaves.{with}
+use Rattle.writer_trees.specs.Trees.{with}
 use Rattle.writer_trees.proofs.Growths.{fact-bounded, fact-fits, with-closer}
-use Rattle.writer_trees.proofs.Tries.{answered}
+use Rattle.writer_leaves.proofs.Tries.{answered}
 use borrow.Author.Needs.{needs}
-use Rattle.writer_trees.proofs.leaves.opens_with.Statement.{statement}
-use Rattle.writer_trees.proofs.leaves.opens_with.Tie as tie
+use Rattle.writer_leaves.proofs.opens_with.Statement.{statement}
+use Rattle.writer_leaves.proofs.opens_with.Tie as tie
 
 edge-requires : tie.Need-edge-requires
 edge-requires c κs =

@@ -1,0 +1,3 @@
+pub mod Descents
+pub mod Tries
+pub mod Roots
