@@ -13,7 +13,7 @@ use Rattle.page_formulas.specs.Costs.{mostInstructions}
 use Rattle.program_tree.specs.Nodes.{Tree, sizeAt}
 use Rattle.goals.specs.Goals.{Goal, atOf, goalOf, stackOf, Each, total, Waits, Standing, Leads}
 use Rattle.goals.proofs.Stacks.{below, stack-top, height}
-use Rattle.tableau.specs.Choices.{InTree, TakenOut}
+use Rattle.tableau_choice.specs.Choices.{InTree, TakenOut}
 
 -- ---- what holds of each goal
 

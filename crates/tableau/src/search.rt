@@ -1,7 +1,4 @@
 // The tableau: what needs no choice comes first, then every goal that waits is looked at, and only then is one of them split.
-use crate::choice::halves;
-use crate::choice::take;
-use crate::sieve::settle;
 use crate::types::Opened;
 use goals::demands::demand;
 use goals::goals::goal_at;
@@ -11,6 +8,9 @@ use limits::INSTRUCTIONS;
 use limits::VERTICES;
 use program_tree::types::Extent;
 use program_tree::types::ROW;
+use tableau_choice::choice::halves;
+use tableau_choice::choice::take;
+use tableau_sieve::sieve::settle;
 ghost use Prim.Native.Nat.{ℕ, _+_, _≤_, _<_};
 ghost use mathlib.Core.Path.{_≡_};
 ghost use mathlib.Core.Bool.{Bool, false};

@@ -12,11 +12,11 @@ use Rattle.goals.proofs.Turns.{takes-then, smaller}
 use Rattle.goals.proofs.demands.demand.Reads as demand-reads
 use Rattle.goals.proofs.goals.goal_at.Reads as goal-at-reads
 use Rattle.goals.proofs.goals.goal_want.Reads as goal-want-reads
-use Rattle.tableau.specs.Choices.{Operands}
+use Rattle.tableau_choice.specs.Choices.{Operands}
 use Rattle.tableau.proofs.Picks.{in-tree, few, picked}
 use Rattle.tableau.proofs.Splits.{none, on, ended, parts, rest, one-open, denied-none, denied-on}
-use Rattle.tableau.proofs.choice.halves.Reads as halves-reads
-use Rattle.tableau.proofs.choice.take.Reads as take-reads
+use Rattle.tableau_choice.proofs.choice.halves.Reads as halves-reads
+use Rattle.tableau_choice.proofs.choice.take.Reads as take-reads
 use Rattle.tableau.proofs.search.advance.Reads as advance-reads
 use Rattle.tableau.proofs.search.shut.Reads as shut-reads
 use Prim.Native.Nat.{ℕ, suc, _+_, _-_, _≤_, _<_}

@@ -14,9 +14,9 @@ use Rattle.page_formulas.specs.Said.{Says}
 use Rattle.program_tree.specs.Nodes.{sizeAt, firstAt, Describes}
 use Rattle.goals.specs.Goals.{Goal, goal, Met, threeBy, total, Waits, Waiting, Solves, Standing, Takes, Sifts, Sees}
 use Rattle.program_tree.specs.Nodes.{Tree}
-use Rattle.tableau.specs.Stands.{standOf}
-use Rattle.tableau.specs.declared.types.Stand.{Stand}
-use Rattle.tableau.specs.declared.types.Stand.the-variants.{Done, Dead, First, Second, Open}
+use Rattle.tableau_sieve.specs.Stands.{standOf}
+use Rattle.tableau_sieve.specs.declared.types.Stand.{Stand}
+use Rattle.tableau_sieve.specs.declared.types.Stand.the-variants.{Done, Dead, First, Second, Open}
 use Rattle.goals.proofs.Turns.{smaller, met-on, met-back, leads-self, takes-same}
 
 -- what a stand says of the two truths

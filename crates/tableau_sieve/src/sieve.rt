@@ -18,7 +18,7 @@ ghost use lib.ListN.{length};
 ghost use Rattle.page_formulas.specs.Costs.{mostInstructions};
 ghost use Rattle.program_tree.specs.Nodes.{treeOf};
 ghost use Rattle.goals.specs.Goals.{threeBy, goalOf, stackOf, Standing, Sees, Takes, Sifts};
-ghost use Rattle.tableau.specs.Stands.{standOf, sifted};
+ghost use Rattle.tableau_sieve.specs.Stands.{standOf, sifted};
 
 // What is known of two operands of which one is enough.
 fn stand(want: bool, first: u8, second: u8) -> Stand

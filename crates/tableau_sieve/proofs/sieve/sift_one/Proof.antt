@@ -10,10 +10,10 @@ use Rattle.program_tree.specs.Nodes.{treeOf, sizeAt, firstAt}
 use Rattle.goals.specs.Goals.{atOf, goalOf, stackOf, Sifts}
 use Rattle.goals.proofs.Stacks.{put, height}
 use Rattle.goals.proofs.Turns.{takes-as}
-use Rattle.tableau.specs.declared.types.Sifted.{Sifted}
-use Rattle.tableau.proofs.Sifts.{less, rest, known, known-as, sift-done, sift-dead, sift-first, sift-second, sift-open}
-use Rattle.tableau.proofs.sieve.sift_one.Statement.{statement}
-use Rattle.tableau.proofs.sieve.sift_one.Tie as tie
+use Rattle.tableau_sieve.specs.declared.types.Sifted.{Sifted}
+use Rattle.tableau_sieve.proofs.Sifts.{less, rest, known, known-as, sift-done, sift-dead, sift-first, sift-second, sift-open}
+use Rattle.tableau_sieve.proofs.sieve.sift_one.Statement.{statement}
+use Rattle.tableau_sieve.proofs.sieve.sift_one.Tie as tie
 
 -- what is known of the goal's operands
 stands : (c : tie.After-stand) → c .stand .result ≡ known (treeOf (now (c .before .before .before .before .before .before .args .nodes)) (now (c .before .before .before .before .before .before .args .most)) (c .before .before .before .before .before .before .args .ext)) (now (c .before .before .before .before .before .before .args .near)) (goalOf (c .before .before .before .before .before .before .args .g)) (stackOf (now (c .before .before .before .before .before .before .args .kept)) (c .before .before .before .before .before .before .args .n)) (c .before .before .before .before .before .before .pre .0) (now (c .before .before .before .before .before .before .args .seen)) (c .before .before .before .before .before .before .pre .1)

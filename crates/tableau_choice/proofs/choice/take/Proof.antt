@@ -2,9 +2,8 @@ use native.Mathlib.Omega.{arith}
 use mathlib.Core.Path.{refl, _∙_}
 use lib.ListN.{length-set}
 use denote.Ref.{now}
-use borrow.Author.Needs.{needs}
-use Rattle.tableau.proofs.choice.take.Statement.{statement}
-use Rattle.tableau.proofs.choice.take.Tie as tie
+use Rattle.tableau_choice.proofs.choice.take.Statement.{statement}
+use Rattle.tableau_choice.proofs.choice.take.Tie as tie
 
 smallest-requires : tie.Need-smallest-requires
 smallest-requires c κs = let p = c .before .pre in (p .0, p .1, p .2)

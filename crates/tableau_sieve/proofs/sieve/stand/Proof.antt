@@ -1,7 +1,7 @@
 use borrow.Author.Needs.{needs}
-use Rattle.tableau.proofs.Stands.{stand-first, stand-second, stand-dead, stand-on-second, stand-on-first, stand-open}
-use Rattle.tableau.proofs.sieve.stand.Statement.{statement}
-use Rattle.tableau.proofs.sieve.stand.Tie as tie
+use Rattle.tableau_sieve.proofs.Stands.{stand-first, stand-second, stand-dead, stand-on-second, stand-on-first, stand-open}
+use Rattle.tableau_sieve.proofs.sieve.stand.Statement.{statement}
+use Rattle.tableau_sieve.proofs.sieve.stand.Tie as tie
 
 wanted-requires : tie.Need-wanted-requires
 wanted-requires c κs = search needs

@@ -3,9 +3,9 @@ use mathlib.Core.Bool.{Bool}
 use Prim.Native.Nat.{ℕ}
 use Rattle.page_formulas.specs.Known.{Three, fails, passes, open?}
 use Rattle.goals.specs.Goals.{wantedBy}
-use Rattle.tableau.specs.declared.types.Sifted.{Sifted}
-use Rattle.tableau.specs.declared.types.Stand.{Stand}
-use Rattle.tableau.specs.declared.types.Stand.the-variants.{Done, Dead, First, Second, Open}
+use Rattle.tableau_sieve.specs.declared.types.Sifted.{Sifted}
+use Rattle.tableau_sieve.specs.declared.types.Stand.{Stand}
+use Rattle.tableau_sieve.specs.declared.types.Stand.the-variants.{Done, Dead, First, Second, Open}
 
 -- by what is known of their being as wanted
 abbrev pub standBy : Three → Three → Stand

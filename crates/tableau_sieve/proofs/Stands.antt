@@ -4,9 +4,8 @@ use mathlib.Core.Path.{_≡_, refl, sym, ap, ap₂, _∙_}
 use native.Mathlib.Omega.{arith}
 use Rattle.page_formulas.specs.Known.{Three}
 use Rattle.goals.specs.Goals.{threeBy}
-use Rattle.tableau.specs.Stands.{standBy}
-use Rattle.tableau.specs.declared.types.Stand.{Stand}
-use Rattle.tableau.specs.declared.types.Stand.the-variants.{Done, Dead, First, Second, Open}
+use Rattle.tableau_sieve.specs.Stands.{standBy}
+use Rattle.tableau_sieve.specs.declared.types.Stand.the-variants.{Done, Dead, First, Second, Open}
 
 -- the two codes, tested
 done-first : (a b : ℕ) → 2 ≤ a → Done ≡ standBy (threeBy a) (threeBy b)

@@ -10,7 +10,7 @@ ghost use mathlib.Core.Path.{_≡_};
 ghost use lib.ListN.{length};
 ghost use Rattle.page_formulas.specs.Costs.{mostInstructions};
 ghost use Rattle.program_tree.specs.Nodes.{cell};
-ghost use Rattle.tableau.specs.Choices.{InTree, TakenOut, Operands};
+ghost use Rattle.tableau_choice.specs.Choices.{InTree, TakenOut, Operands};
 
 // Where the smallest of the goals that wait stands.
 fn smallest(nodes: &[[u16; ROW]; INSTRUCTIONS], waiting: &[u16; INSTRUCTIONS], n: usize) -> usize

@@ -10,9 +10,9 @@ use Rattle.page_formulas.specs.Costs.{mostInstructions}
 use Rattle.program_tree.specs.Nodes.{treeOf}
 use Rattle.goals.specs.Goals.{goalOf, stackOf, Sifts}
 use Rattle.goals.proofs.Stacks.{stack-top, stack-none, height}
-use Rattle.tableau.proofs.Sifts.{Sifting, sifting-start, sifting-asks, sifting-closed, sifting-more, sifting-end, sees-on}
-use Rattle.tableau.proofs.sieve.sift.Statement.{statement}
-use Rattle.tableau.proofs.sieve.sift.Tie as tie
+use Rattle.tableau_sieve.proofs.Sifts.{Sifting, sifting-start, sifting-asks, sifting-closed, sifting-more, sifting-end, sees-on}
+use Rattle.tableau_sieve.proofs.sieve.sift.Statement.{statement}
+use Rattle.tableau_sieve.proofs.sieve.sift.Tie as tie
 
 abbrev Inv-loop : tie.InvT-loop
 Inv-loop nodes most ext seen near₀ old n kept₀ left₀ count₀ moved₀ near kept left count moved = (left ≤ n) × (length kept ≡ mostInstructions) × Sifting (treeOf nodes most ext) near₀ (stackOf old n) near (stackOf old left) (stackOf kept count) moved

@@ -7,9 +7,9 @@ use Rattle.page_formulas.specs.Costs.{mostInstructions}
 use Rattle.program_tree.specs.Nodes.{treeOf}
 use Rattle.goals.specs.Goals.{stackOf, total, Leads, Takes}
 use Rattle.goals.proofs.Turns.{leads-self, takes-then}
-use Rattle.tableau.proofs.Sifts.{turn-less}
-use Rattle.tableau.proofs.sieve.settle.Statement.{statement}
-use Rattle.tableau.proofs.sieve.settle.Tie as tie
+use Rattle.tableau_sieve.proofs.Sifts.{turn-less}
+use Rattle.tableau_sieve.proofs.sieve.settle.Statement.{statement}
+use Rattle.tableau_sieve.proofs.sieve.settle.Tie as tie
 
 abbrev Inv-loop : tie.InvT-loop
 Inv-loop nodes most ext near₀ waiting₀ n seen₀ count₀ moved₀ near waiting seen count moved = (length seen ≡ mostInstructions) × (length waiting ≡ mostInstructions) × Leads (treeOf nodes most ext) near₀ (stackOf waiting₀ n) near (stackOf waiting count)

@@ -1,9 +1,8 @@
 use native.Mathlib.Omega.{arith}
-use Prim.Native.Nat.{_-_, _≤_, _<_}
+use Prim.Native.Nat.{_-_, _<_}
 use borrow.Author.Needs.{needs}
-use denote.Ref.{now}
-use Rattle.tableau.proofs.choice.smallest.Statement.{statement}
-use Rattle.tableau.proofs.choice.smallest.Tie as tie
+use Rattle.tableau_choice.proofs.choice.smallest.Statement.{statement}
+use Rattle.tableau_choice.proofs.choice.smallest.Tie as tie
 
 abbrev Inv-loop : tie.InvT-loop
 Inv-loop nodes waiting n at₀ least₀ k₀ at least k = (at < n) × (k < n)

@@ -2,8 +2,8 @@ use native.Mathlib.Omega.{arith}
 use mathlib.Core.Path.{refl}
 use mathlib.Core.Logic.{inl, inr}
 use borrow.Author.Needs.{needs}
-use Rattle.tableau.proofs.choice.halves.Statement.{statement}
-use Rattle.tableau.proofs.choice.halves.Tie as tie
+use Rattle.tableau_choice.proofs.choice.halves.Statement.{statement}
+use Rattle.tableau_choice.proofs.choice.halves.Tie as tie
 
 first-of-requires : tie.Need-first-of-requires
 first-of-requires c κs = search needs

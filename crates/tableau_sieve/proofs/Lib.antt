@@ -1,0 +1,2 @@
+pub mod Stands
+pub mod Sifts
