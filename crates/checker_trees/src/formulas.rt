@@ -1,7 +1,7 @@
 // The check of a compiled formula's tree.
-use crate::nodes::Past;
 use crate::trees::Stage;
 use crate::trees::tree;
+use checker_nodes::Past;
 use facts::start;
 use limits::PLACES;
 use program::types::Outline;
@@ -11,7 +11,7 @@ ghost use Rattle.page_meaning.specs.Limits.{mostVertices};
 ghost use Rattle.page_formulas.specs.Formulas as spec;
 ghost use Rattle.page_sheets.specs.Tree.{checkTree};
 ghost use Rattle.program.specs.Compiled.{Compiled, Fine, formulaOf};
-ghost use Rattle.checker_trees.specs.Checking.{outcomeOf};
+ghost use Rattle.checker_nodes.specs.Nodes.{outcomeOf};
 
 // A formula's tree at the start of the part that is lent: no place is decided yet.
 pub fn formula_tree(

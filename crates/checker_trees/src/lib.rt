@@ -1,4 +1,3 @@
-// The trees of a yes sheet: their nodes, a tree, and that of a compiled formula.
+// The trees of a yes sheet: a tree from a node on, and that of a compiled formula.
 pub mod formulas;
-pub mod nodes;
 mod trees;

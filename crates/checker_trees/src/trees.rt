@@ -1,7 +1,7 @@
 // The check of one formula's tree: recursion on the places left.
-use crate::nodes::Past;
-use crate::nodes::cycle;
-use crate::nodes::false_leaf;
+use checker_nodes::Past;
+use checker_nodes::cycle;
+use checker_nodes::false_leaf;
 use facts::decide;
 use limits::PLACES;
 use limits::VERTICES;
@@ -12,7 +12,8 @@ ghost use Rattle.page_meaning.specs.Limits.{mostVertices, mostDecisions};
 ghost use Rattle.page_walks.specs.Grid.{farN};
 ghost use Rattle.page_walks.specs.Sizes.{Sized, AllWithin};
 ghost use Rattle.page_formulas.specs.Formulas.{Formula};
-ghost use Rattle.checker_trees.specs.Checking.{outcomeOf, checkLeft};
+ghost use Rattle.checker_nodes.specs.Nodes.{outcomeOf};
+ghost use Rattle.checker_trees.specs.Checking.{checkLeft};
 ghost use Rattle.program.specs.Lent.{Shows, Lent, Lendable};
 
 // Where the check of a tree stands: its position in the part that is lent, the decisions so far, and how many places are left.

@@ -10,13 +10,13 @@ use Rattle.page_meaning.specs.Limits.{mostVertices}
 use Rattle.page_formulas.specs.Formulas.{Formula, noFormula}
 use Rattle.formula.specs.Formulas.{formulaAt}
 use Rattle.page_formulas.specs.Program.{places}
-use Rattle.checker_trees.specs.declared.nodes.Past.{Past}
-use Rattle.checker_trees.specs.declared.nodes.Past.the-variants.{At, Refused}
+use Rattle.checker_nodes.specs.declared.Past.{Past}
+use Rattle.checker_nodes.specs.declared.Past.the-variants.{At, Refused}
 use Rattle.page_sheets.specs.Facts.{start}
 use Rattle.page_sheets.specs.Tree.{Outcome, passed, refused, andThen, checkTree}
 use Rattle.page_sheets.specs.Trees.{checkTrees}
 use Rattle.page_sheets.specs.Sheet.{Answer, says, sayYes, refusal, yesEnd}
-use Rattle.checker_trees.specs.Checking.{outcomeOf}
+use Rattle.checker_nodes.specs.Nodes.{outcomeOf}
 use Rattle.page_sheets.proofs.HandsOn.{HandsOn, check-hands}
 use Rattle.page_sheets.proofs.Positions.{trees-next, trees-end}
 

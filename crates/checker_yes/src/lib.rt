@@ -1,6 +1,6 @@
 // A yes sheet: one tree per formula, and then the end.
+use checker_nodes::Past;
 use checker_trees::formulas::formula_tree;
-use checker_trees::nodes::Past;
 use formula::formulas::formula_count;
 use formula::formulas::outline;
 use limits::INSTRUCTIONS;

@@ -7,8 +7,8 @@ use Rattle.page_meaning.specs.Limits.{mostVertices}
 use Rattle.question.specs.Held.{questionOf}
 use Rattle.page_formulas.specs.Formulas.{formulas}
 use Rattle.formula.specs.Formulas.{formulaAt}
-use Rattle.checker_trees.specs.declared.nodes.Past.{Past}
-use Rattle.checker_trees.specs.Checking.{outcomeOf}
+use Rattle.checker_nodes.specs.declared.Past.{Past}
+use Rattle.checker_nodes.specs.Nodes.{outcomeOf}
 use Rattle.page_sheets.specs.Tree.{checkTree}
 use Rattle.page_sheets.specs.Sheet.{checkYes}
 use Rattle.page_sheets.proofs.Cycles.{to-the-end}

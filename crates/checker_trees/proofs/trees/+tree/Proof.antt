@@ -20,8 +20,8 @@ use Rattle.checker_trees.proofs.trees.tree.Kinds as tree-kinds
 use Rattle.checker_trees.proofs.trees.+tree.Lts-tree as tree-lts
 use Rattle.facts.proofs.decide.Reads as decide-reads
 use Rattle.checker_trees.proofs.trees.below.Reads as below-reads
-use Rattle.checker_trees.proofs.nodes.cycle.Reads as cycle-reads
-use Rattle.checker_trees.proofs.nodes.false_leaf.Reads as false-leaf-reads
+use Rattle.checker_nodes.proofs.cycle.Reads as cycle-reads
+use Rattle.checker_nodes.proofs.false_leaf.Reads as false-leaf-reads
 use Rattle.checker_trees.proofs.trees.+tree.{statement}
 use Rattle.checker_trees.proofs.trees.+tree.Tie.{close}
 

@@ -9,8 +9,8 @@ use Rattle.page_walks.specs.Walk.{Below}
 use Rattle.page_formulas.specs.Vertices.{Ranges, present}
 use Rattle.program.specs.Lent.{Shows}
 use Rattle.page_sheets.proofs.Named.{AllShown, below-take, named-all, named-short, named-lacking}
-use Rattle.checker_trees.proofs.nodes.named.Statement.{statement}
-use Rattle.checker_trees.proofs.nodes.named.Tie as tie
+use Rattle.checker_nodes.proofs.named.Statement.{statement}
+use Rattle.checker_nodes.proofs.named.Tie as tie
 
 abbrev Inv-loop : tie.InvT-loop
 Inv-loop shown bytes count i₀ i = (i ≤ length bytes) × (i ≤ count) × ((rs : Ranges) → Shows shown rs → AllShown rs bytes i) × Below (length shown) (take i bytes)

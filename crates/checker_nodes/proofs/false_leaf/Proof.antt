@@ -6,8 +6,8 @@ use lib.ListN.{drop}
 use lib.Seq.{length-take-le}
 use Rattle.truth.specs.Cells.{threeOf}
 use Rattle.page_sheets.specs.Tree.{falseNode, passed}
-use Rattle.checker_trees.proofs.nodes.false_leaf.Statement.{statement}
-use Rattle.checker_trees.proofs.nodes.false_leaf.Tie as tie
+use Rattle.checker_nodes.proofs.false_leaf.Statement.{statement}
+use Rattle.checker_nodes.proofs.false_leaf.Tie as tie
 
 array-share-prefix-truths : tie.Need-array-share-prefix-truths
 array-share-prefix-truths c = search needs

@@ -17,7 +17,7 @@ ghost use Rattle.truth.specs.Cells.{bit};
 ghost use Rattle.page_formulas.specs.Kinds.{knownKinds};
 ghost use Rattle.page_formulas.specs.Formulas.{Formula};
 ghost use Rattle.page_sheets.specs.Tree.{falseNode, cycleNode};
-ghost use Rattle.checker_trees.specs.Checking.{outcomeOf, Named};
+ghost use Rattle.checker_nodes.specs.Nodes.{outcomeOf, Named};
 ghost use Rattle.program.specs.Lent.{Shows};
 
 // Where a tree, or a part of it, ends in the bytes that were lent; or the number that says no, and where.

@@ -5,12 +5,12 @@ use lib.ListN.{getD, take, drop, length-drop}
 use lib.Seq.{length-take-le}
 use Rattle.page_meaning.specs.Limits.{mostVertices}
 use Rattle.page_walks.proofs.Among.{below-more}
-use Rattle.checker_trees.specs.Checking.{Named}
-use Rattle.checker_trees.specs.declared.nodes.Naming.the-variants.{All, Lacking}
+use Rattle.checker_nodes.specs.Nodes.{Named}
+use Rattle.checker_nodes.specs.declared.Naming.the-variants.{All, Lacking}
 use Rattle.page_sheets.proofs.Cycles.{to-the-end, cycle-end, cycle-none, cycle-many, cycle-lacking, cycle-shut, cycle-open}
 use borrow.Author.Needs.{needs}
-use Rattle.checker_trees.proofs.nodes.cycle.Statement.{statement}
-use Rattle.checker_trees.proofs.nodes.cycle.Tie as tie
+use Rattle.checker_nodes.proofs.cycle.Statement.{statement}
+use Rattle.checker_nodes.proofs.cycle.Tie as tie
 
 add-from : tie.Need-add-from
 add-from c = search needs

@@ -3,8 +3,8 @@ use lib.IntN.{pos}
 use lib.Signed.{ltZ}
 use mir.Facts.{toZ-ofZ}
 use borrow.Author.Needs.{needs}
-use Rattle.checker_trees.proofs.nodes.below_zero.Statement.{statement}
-use Rattle.checker_trees.proofs.nodes.below_zero.Tie as tie
+use Rattle.checker_nodes.proofs.below_zero.Statement.{statement}
+use Rattle.checker_nodes.proofs.below_zero.Tie as tie
 
 closing-requires : tie.Need-closing-requires
 closing-requires c κs = search needs
