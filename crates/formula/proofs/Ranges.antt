@@ -14,7 +14,7 @@ use Rattle.question.specs.declared.types.Column.{Column}
 use Rattle.page_formulas.specs.Formulas.{among, firstRanges, hiddenRanges, bothRanges}
 use Rattle.program.specs.Compiled.{rangeIf}
 use Rattle.sights.specs.Seen.{noColumn, Whole}
-use Rattle.sights.specs.Rows.{rowRanges, rangesBy}
+use Rattle.vertices.specs.Rows.{rowRanges, rangesBy}
 use Rattle.sights.proofs.Shapes.{columns-are, visible-is}
 
 -- ---- lists of columns

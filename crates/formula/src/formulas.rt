@@ -7,7 +7,7 @@ use limits::PLACES;
 use program::types::Outline;
 use question::types::Question;
 use question::types::Verb;
-use sights::vertices::vertices;
+use vertices::vertices;
 ghost use mathlib.Core.Path.{_≡_};
 ghost use Prim.Native.Nat.{_<_};
 ghost use lib.ListN.{length};

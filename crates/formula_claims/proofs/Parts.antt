@@ -20,7 +20,7 @@ use Rattle.program.specs.Built.{Long, Room, Builds, Means}
 use Rattle.program.specs.declared.types.Program.{Program}
 use Rattle.program.proofs.Emits.{emits-means}
 use Rattle.program.proofs.Weights.{more, said, within, room-less, room-left}
-use Rattle.sights.proofs.Pieces.{next}
+use Rattle.pieces.proofs.Pieces.{next}
 use Rattle.formula_lines.specs.Lines.{claimOf, partBy, partOf, noPart, partsOf, firstOf, restOf, lineBy, lineOf, Tabled}
 use Rattle.formula_deeds.specs.Deeds.{Under}
 use Rattle.formula_claims.specs.Claims.{rowsOf, wordsOf}

@@ -15,7 +15,7 @@ use Rattle.page_formulas.specs.Formulas.{vertex, among, newTerm, after, bounded
 use Rattle.page_formulas.specs.Formulas as F
 use Rattle.question.specs.Held.{conditionOf}
 use Rattle.sights.specs.Seen.{flagsOf, shownFrom, visibleOf, rowOf, modesOf, modeIn, sightOf, Usable}
-use Rattle.sights.specs.Partway.{tableFrom}
+use Rattle.pieces.specs.Partway.{tableFrom}
 use Rattle.sights.specs.declared.types.Sight.{Sight}
 use Rattle.formula_deeds.specs.Deeds.{viewOf, Under, Legible}
 use Rattle.formula_claims.specs.Claims.{rowsOf, wordsOf}

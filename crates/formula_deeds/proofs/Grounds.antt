@@ -18,11 +18,11 @@ use Rattle.question.specs.declared.types.Condition.{Condition}
 use Rattle.question.specs.declared.types.Setting.{Setting}
 use Rattle.page_formulas.specs.Compile as C
 use Rattle.page_formulas.specs.Formulas.{boundedNew, boundedAll}
-use Rattle.sights.specs.Seen.{noColumn, There, Whole, shownFrom}
-use Rattle.sights.specs.Partway.{noRange, tableFrom, Ready}
+use Rattle.sights.specs.Seen.{noColumn, There, Whole, shownFrom, noRange}
+use Rattle.pieces.specs.Partway.{tableFrom, Ready}
 use Rattle.sights.specs.declared.types.Sight.{Sight}
 use Rattle.sights.proofs.Shapes.{columns-length, first-is, changed-is, changed-length, range-at, condition-is}
-use Rattle.sights.proofs.Tests.{no-modes}
+use Rattle.pieces.proofs.Tests.{no-modes}
 use Rattle.formula_deeds.specs.Deeds.{Able, Under, Done, Becomes}
 use Rattle.formula_deeds.specs.declared.deeds.Deed.{Deed}
 use Rattle.formula_deeds.proofs.Fills.{map-take}

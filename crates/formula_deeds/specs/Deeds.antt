@@ -20,7 +20,7 @@ use Rattle.question.specs.declared.types.Verb.the-variants.{Insert, Delete, Mod
 use Rattle.page_formulas.specs.Compile as S
 use Rattle.page_formulas.specs.Formulas.{boundedAll}
 use Rattle.sights.specs.Seen.{There, Has, Whole, Usable, modesOf, visibleOf}
-use Rattle.sights.specs.Partway.{Ready, tableFrom}
+use Rattle.pieces.specs.Partway.{Ready, tableFrom}
 use Rattle.sights.specs.declared.types.Sight.{Sight}
 use Rattle.formula_deeds.specs.declared.deeds.Deed.{Deed}
 

@@ -16,7 +16,7 @@ ghost use Rattle.page_meaning.specs.Limits.{mostColumns};
 ghost use Rattle.page_meaning.specs.WellFormed.{Reads};
 ghost use Rattle.question.specs.Held.{settingOf, conditionOf};
 ghost use Rattle.sights.specs.Seen.{There};
-ghost use Rattle.sights.specs.Partway.{Ready};
+ghost use Rattle.pieces.specs.Partway.{Ready};
 ghost use Rattle.formula_deeds.specs.Deeds.{Able, Becomes, Buildable, conditionFor, modesFor, Done};
 
 // What claims are read under: the columns and the list's condition, the change's condition, and the sight of a row after the change.

@@ -1,3 +1,1 @@
 pub mod Seen
-pub mod Partway
-pub mod Rows

@@ -7,7 +7,7 @@ use lib.ListN.{length, getD, take, replicate}
 use lib.IntN.{pos, negℤ}
 use lib.Signed.{_≤ℤ_}
 use Rattle.page_meaning.specs.Limits.{mostColumns}
-use Rattle.page_meaning.specs.Contents.{Mode, keep, become, shift}
+use Rattle.page_meaning.specs.Contents.{Range, Mode, keep, become, shift}
 use Rattle.page_meaning.specs.Contents as M
 use Rattle.page_meaning.specs.WellFormed.{Reads}
 use Rattle.question.specs.Held.{settingOf, Held}
@@ -37,6 +37,10 @@ pub record Whole (q : Question) : Type 0 where
 -- the machine's column past the end of an array
 abbrev pub noColumn : Column
 noColumn = record { lo = pos 0; hi = pos 0; visible = false }
+
+-- a range past the end of a list of them: what a column of zeros means
+abbrev pub noRange : Range
+noRange = record { lo = pos 0; hi = pos 0 }
 
 -- ---- a sight's
 

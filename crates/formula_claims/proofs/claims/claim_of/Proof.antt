@@ -7,7 +7,7 @@ use Rattle.page_formulas.specs.Parts.{conditionProgram}
 use Rattle.page_formulas.specs.Program.{falseI}
 use Rattle.program.proofs.Weights.{said}
 use Rattle.sights.specs.Seen.{sightOf, modeIn, visibleOf, Has, Usable}
-use Rattle.sights.specs.Partway.{Ready}
+use Rattle.pieces.specs.Partway.{Ready}
 use Rattle.formula_lines.specs.Lines.{claimOf}
 use Rattle.formula_claims.proofs.Views.{view-usable, listed-is, relisted-is, chosen-is, differs-is}
 use borrow.Author.Needs.{needs}

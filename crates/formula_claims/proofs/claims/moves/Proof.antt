@@ -6,7 +6,7 @@ use Rattle.page_formulas.specs.Formulas.{boundedAll}
 use Rattle.page_formulas.specs.Parts.{conditionProgram}
 use Rattle.program.proofs.Weights.{said, more, room-less, room-left}
 use Rattle.sights.specs.Seen.{sightOf, rowOf, modesOf, Has, Usable}
-use Rattle.sights.specs.Partway.{Ready, tableFrom}
+use Rattle.pieces.specs.Partway.{Ready, tableFrom}
 use Rattle.formula_claims.proofs.Views.{view-usable, chosen-is, tests-are}
 use borrow.Author.Needs.{needs}
 use Rattle.formula_claims.proofs.claims.moves.Statement.{statement}

@@ -5,7 +5,7 @@ use Rattle.question.specs.Held.{conditionOf}
 use Rattle.page_formulas.specs.Parts.{conditionProgram}
 use Rattle.program.proofs.Weights.{said, more, within, room-less, room-left}
 use Rattle.sights.specs.Seen.{sightOf, Has, Usable}
-use Rattle.sights.specs.Partway.{Ready}
+use Rattle.pieces.specs.Partway.{Ready}
 use Rattle.formula_claims.proofs.Views.{view-usable, relisted-is}
 use borrow.Author.Needs.{needs}
 use Rattle.formula_claims.proofs.claims.stays.Statement.{statement}

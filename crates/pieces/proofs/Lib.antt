@@ -1,0 +1,4 @@
+pub mod Pieces
+pub mod Tokens
+pub mod Tests
+pub mod Contrasts
