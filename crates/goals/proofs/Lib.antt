@@ -1,5 +1,3 @@
 pub mod Tightens
 pub mod Stacks
 pub mod Turns
-pub mod Codes
-pub mod Looks

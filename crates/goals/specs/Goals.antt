@@ -5,17 +5,14 @@ use mathlib.Core.Bool.{Bool, true, false, not, cond}
 use mathlib.Core.List.{List, [], _∷_}
 use lib.Dec.{ltb}
 use lib.ListN.{getD}
-use lib.IntN.{ℤ, pos, _+ℤ_}
-use lib.Signed.{leZ, ltZ}
+use lib.IntN.{ℤ, pos}
 use Rattle.page_meaning.specs.Limits.{mostVertices}
 use Rattle.page_walks.specs.Grid.{Grid, weight}
 use Rattle.page_walks.specs.Sizes.{Sized}
 use Rattle.page_walks.specs.Walk.{Sat}
-use Rattle.page_formulas.specs.Program.{Values, Place, Program, truth}
-use Rattle.page_formulas.specs.Known.{Three, fails, passes, open?, not3}
+use Rattle.page_formulas.specs.Program.{Values, Program, truth}
 use Rattle.page_formulas.specs.Vertices.{InRange}
 use Rattle.page_formulas.specs.Formulas.{Formula}
-use Rattle.page_formulas.specs.Said.{Says}
 use Rattle.page_formulas.specs.Costs.{mostInstructions}
 use Rattle.goals.specs.Closed.{Tight}
 use Rattle.program_tree.specs.Nodes.{Tree, kindAt, sizeAt, Laid, Describes}
@@ -93,30 +90,6 @@ unlike (suc (suc (suc zero))) want = want
 unlike (suc (suc (suc (suc zero)))) want = not want
 unlike (suc (suc (suc (suc (suc k))))) want = want
 
--- a code for what is known, in the order of the three values: so an and is the lesser, an or the greater
-abbrev pub threeBy : ℕ → Three
-threeBy zero = fails
-threeBy (suc zero) = open?
-threeBy (suc (suc n)) = passes
-
--- what is known of a part's being as wanted
-abbrev pub wantedBy : Bool → Three → Three
-wantedBy true a = a
-wantedBy false a = not3 a
-
--- what the facts say of a place: implied, contradicted, or nothing
-abbrev pub seenPlace : Grid → Place → Three
-seenPlace near q = cond (leZ (weight near (q .right) (q .left)) (q .most)) passes (cond (ltZ (weight near (q .left) (q .right) +ℤ q .most) (pos 0)) fails open?)
-
--- of a constant
-abbrev pub seenConstant : ℕ → Three
-seenConstant zero = fails
-seenConstant (suc zero) = fails
-seenConstant (suc (suc zero)) = fails
-seenConstant (suc (suc (suc zero))) = fails
-seenConstant (suc (suc (suc (suc zero)))) = passes
-seenConstant (suc (suc (suc (suc (suc k))))) = fails
-
 module _ (t : Tree) where
   -- how many instructions there are in them
   abbrev pub total : List Goal → ℕ
@@ -163,11 +136,3 @@ module _ (t : Tree) where
   pub record Sifts (near : Grid) (gs : List Goal) (closed moved : Bool) (near′ : Grid) (gs′ : List Goal) : Type 0 where
     pub takes : Takes near gs closed near′ gs′
     pub falls : closed ≡ false → moved ≡ true → total gs′ < total gs
-
-  -- what is seen of an instruction is so, at all values that meet the facts
-  pub record Shows (near : Grid) (i code : ℕ) : Type 0 where
-    pub so : (v : Values → ℕ → Bool) → Describes t v → (x : Values) → Sat (weight near) (suc (t .last)) x → Says (threeBy code) (v x i)
-
-  -- of each of the first n
-  pub record Sees (near : Grid) (n : ℕ) (seen : List ℕ) : Type 0 where
-    pub each : (j : ℕ) → j < n → Shows near j (getD seen j 0)

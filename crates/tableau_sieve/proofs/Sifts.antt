@@ -12,7 +12,8 @@ use Rattle.page_formulas.specs.Program.{Values}
 use Rattle.page_formulas.specs.Known.{Three, fails, passes, open?}
 use Rattle.page_formulas.specs.Said.{Says}
 use Rattle.program_tree.specs.Nodes.{sizeAt, firstAt, Describes}
-use Rattle.goals.specs.Goals.{Goal, goal, Met, threeBy, total, Waits, Waiting, Solves, Standing, Takes, Sifts, Sees}
+use Rattle.goals.specs.Goals.{Goal, goal, Met, total, Waits, Waiting, Solves, Standing, Takes, Sifts}
+use Rattle.views.specs.Seen.{threeBy, Sees}
 use Rattle.program_tree.specs.Nodes.{Tree}
 use Rattle.tableau_sieve.specs.Stands.{standOf}
 use Rattle.tableau_sieve.specs.declared.types.Stand.{Stand}

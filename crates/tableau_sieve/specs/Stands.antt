@@ -2,7 +2,7 @@
 use mathlib.Core.Bool.{Bool}
 use Prim.Native.Nat.{ℕ}
 use Rattle.page_formulas.specs.Known.{Three, fails, passes, open?}
-use Rattle.goals.specs.Goals.{wantedBy}
+use Rattle.views.specs.Seen.{wantedBy}
 use Rattle.tableau_sieve.specs.declared.types.Sifted.{Sifted}
 use Rattle.tableau_sieve.specs.declared.types.Stand.{Stand}
 use Rattle.tableau_sieve.specs.declared.types.Stand.the-variants.{Done, Dead, First, Second, Open}

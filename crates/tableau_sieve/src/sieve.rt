@@ -5,19 +5,20 @@ use goals::demands::demand;
 use goals::goals::goal_at;
 use goals::goals::goal_want;
 use goals::types::Taken;
-use goals::views::look;
-use goals::views::wanted;
 use limits::INSTRUCTIONS;
 use limits::VERTICES;
 use program_tree::operands::first_of;
 use program_tree::types::Extent;
 use program_tree::types::ROW;
+use views::look;
+use views::wanted;
 ghost use mathlib.Core.Path.{_≡_};
 ghost use mathlib.Core.List.{_∷_};
 ghost use lib.ListN.{length};
 ghost use Rattle.page_formulas.specs.Costs.{mostInstructions};
 ghost use Rattle.program_tree.specs.Nodes.{treeOf};
-ghost use Rattle.goals.specs.Goals.{threeBy, goalOf, stackOf, Standing, Sees, Takes, Sifts};
+ghost use Rattle.goals.specs.Goals.{goalOf, stackOf, Standing, Takes, Sifts};
+ghost use Rattle.views.specs.Seen.{threeBy, Sees};
 ghost use Rattle.tableau_sieve.specs.Stands.{standOf, sifted};
 
 // What is known of two operands of which one is enough.

@@ -20,7 +20,7 @@ use Rattle.goals.proofs.demands.fails.Reads as fails-reads
 use Rattle.goals.proofs.demands.splits.Reads as splits-reads
 use Rattle.goals.proofs.facts.enter_place.Reads as enter-place-reads
 use Rattle.goals.proofs.goals.goal.Reads as goal-reads
-use Prim.Native.Nat.{ℕ, suc, _+_, _-_, _≤_, _<_}
+use Prim.Native.Nat.{ℕ, suc, _+_, _-_, _<_}
 use borrow.Fn.Kinds.{In}
 use borrow.Fn.PlainCycle.{Measures, is, falls, and}
 use Rattle.goals.proofs.demands.demand.Reads as demand

@@ -1,7 +1,6 @@
-use Rattle.goals.proofs.Codes.{not-code}
-use borrow.Author.Needs.{needs}
-use Rattle.goals.proofs.views.opposite.Statement.{statement}
-use Rattle.goals.proofs.views.opposite.Tie as tie
+use Rattle.views.proofs.Codes.{not-code}
+use Rattle.views.proofs.opposite.Statement.{statement}
+use Rattle.views.proofs.opposite.Tie as tie
 
 returns : tie.Need-returns
 returns c = rw (c .if1 .taken)

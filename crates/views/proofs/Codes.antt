@@ -1,11 +1,10 @@
 -- The codes of the three values: the lesser of two is their and, the greater their or.
 use Prim.Native.Nat.{ℕ, zero, suc, _≤_, _<_}
-use mathlib.Core.Path.{_≡_, refl, sym, ap, _∙_}
-use mathlib.Core.Bool.{Bool, true, false}
+use mathlib.Core.Path.{_≡_, refl}
 use native.Mathlib.Omega.{arith}
 use Rattle.page_formulas.specs.Known.{Three, and3, or3, not3}
 use Rattle.truth.specs.Cells.{joinedBy}
-use Rattle.goals.specs.Goals.{threeBy}
+use Rattle.views.specs.Seen.{threeBy}
 
 pub not-code : (a : ℕ) → ¬ (a ≡ 0) → ¬ (a ≡ 1) → threeBy 0 ≡ not3 (threeBy a)
 not-code zero e f = absurd (e refl)

@@ -5,10 +5,10 @@ use lib.ListN.{length, length-set}
 use denote.Ref.{now}
 use Rattle.page_formulas.specs.Costs.{mostInstructions}
 use Rattle.program_tree.specs.Nodes.{treeOf}
-use Rattle.goals.specs.Goals.{Sees}
-use Rattle.goals.proofs.Looks.{sees-start, sees-more}
-use Rattle.goals.proofs.views.look.Statement.{statement}
-use Rattle.goals.proofs.views.look.Tie as tie
+use Rattle.views.specs.Seen.{Sees}
+use Rattle.views.proofs.Looks.{sees-start, sees-more}
+use Rattle.views.proofs.look.Statement.{statement}
+use Rattle.views.proofs.look.Tie as tie
 
 abbrev Inv-loop : tie.InvT-loop
 Inv-loop nodes most ext near seen₀ n i₀ seen i = (i ≤ n) × (n ≡ ext .count) × (length seen ≡ mostInstructions) × Sees (treeOf nodes most ext) near i seen

@@ -11,10 +11,10 @@ use Rattle.page_meaning.specs.Limits.{mostVertices}
 use Rattle.page_walks.specs.Grid.{row, weight}
 use Rattle.page_walks.proofs.Rows.{read}
 use Rattle.program_tree.specs.Nodes.{placeOf}
 use Rattle.goals.proofs.Tightens.{sum-fits}
-use Rattle.goals.proofs.Looks.{seen-passes, seen-fails, seen-open}
-use Rattle.goals.proofs.views.seen_place.Statement.{statement}
-use Rattle.goals.proofs.views.seen_place.Tie as tie
+use Rattle.views.proofs.Looks.{seen-passes, seen-fails, seen-open}
+use Rattle.views.proofs.seen_place.Statement.{statement}
+use Rattle.views.proofs.seen_place.Tie as tie
 
 -- the numbers as the machine makes them
 there-is : (c : tie.After-there) → toZ w64 (ofZ w64 (getD (row (now (c .before .args .near)) (c .before .args .right)) (c .before .args .left) (pos 0))) ≡ weight (now (c .before .args .near)) (c .before .args .right) (c .before .args .left)

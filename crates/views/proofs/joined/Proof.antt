@@ -1,8 +1,7 @@
 use mathlib.Core.Path.{_∙_}
-use borrow.Author.Needs.{needs}
-use Rattle.goals.proofs.Codes.{and-first, and-second, or-first, or-second, and-joined, or-joined}
-use Rattle.goals.proofs.views.joined.Statement.{statement}
-use Rattle.goals.proofs.views.joined.Tie as tie
+use Rattle.views.proofs.Codes.{and-first, and-second, or-first, or-second, and-joined, or-joined}
+use Rattle.views.proofs.joined.Statement.{statement}
+use Rattle.views.proofs.joined.Tie as tie
 
 returns : tie.Need-returns
 returns c = let a = c .before .before .args in and-first (a .a) (a .b) (c .if2 .taken) ∙ and-joined (a .kind) (c .before .if1 .taken) _ _

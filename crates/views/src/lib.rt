@@ -15,8 +15,8 @@ ghost use Rattle.page_formulas.specs.Known.{not3};
 ghost use Rattle.truth.specs.Cells.{joinedBy};
 ghost use Rattle.page_formulas.specs.Costs.{mostInstructions};
 ghost use Rattle.program_tree.specs.Nodes.{Placed, placeOf, treeOf, Laid};
 ghost use Rattle.goals.specs.Closed.{Tight};
-ghost use Rattle.goals.specs.Goals.{threeBy, wantedBy, seenPlace, seenConstant, Shows, Sees};
+ghost use Rattle.views.specs.Seen.{threeBy, wantedBy, seenPlace, seenConstant, Shows, Sees};
 
 // Not.
 fn opposite(a: u8) -> u8

@@ -1,7 +1,7 @@
-use Rattle.goals.proofs.Looks.{constant-other}
+use Rattle.views.proofs.Looks.{constant-other}
 use borrow.Author.Needs.{needs}
-use Rattle.goals.proofs.views.seen_constant.Statement.{statement}
-use Rattle.goals.proofs.views.seen_constant.Tie as tie
+use Rattle.views.proofs.seen_constant.Statement.{statement}
+use Rattle.views.proofs.seen_constant.Tie as tie
 
 returns : tie.Need-returns
 returns c = search needs

@@ -20,7 +20,7 @@ use Rattle.page_formulas.proofs.Knows.{says-and, says-or, says-not}
 use Rattle.truth.specs.Cells.{joinedBy}
 use Rattle.page_formulas.specs.Postfix.{says}
 use Rattle.program_tree.specs.Nodes.{Tree, Placed, kindAt, firstAt, placeIn, Laid}
-use Rattle.goals.specs.Goals.{threeBy, seenPlace, seenConstant, Shows, Sees}
+use Rattle.views.specs.Seen.{threeBy, seenPlace, seenConstant, Shows, Sees}
 use Rattle.page_formulas.proofs.Cases.{joint-case, constant-case}
 
 -- ---- a place: as the code tests it, and what that says

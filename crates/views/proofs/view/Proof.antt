@@ -6,11 +6,11 @@ use denote.Ref.{now}
 use borrow.Author.Needs.{needs}
 use Rattle.truth.specs.Cells.{joinedBy}
 use Rattle.program_tree.specs.Nodes.{Placed, treeOf, firstAt}
-use Rattle.goals.specs.Goals.{threeBy, seenPlace}
+use Rattle.views.specs.Seen.{threeBy, seenPlace}
 use Rattle.goals.proofs.Tightens.{held-most}
-use Rattle.goals.proofs.Looks.{shows-place, shows-constant, shows-not, shows-joined, after-some}
-use Rattle.goals.proofs.views.view.Statement.{statement}
-use Rattle.goals.proofs.views.view.Tie as tie
+use Rattle.views.proofs.Looks.{shows-place, shows-constant, shows-not, shows-joined, after-some}
+use Rattle.views.proofs.view.Statement.{statement}
+use Rattle.views.proofs.view.Tie as tie
 
 kind-of-requires : tie.Need-kind-of-requires
 kind-of-requires c κs = omega (arith, c .pre .0 .0 .short, c .pre .1 .0)
