@@ -1,15 +1,23 @@
 // Bytes put into a lent room one after another. Once a byte finds no room nothing more is stored: the sheet is longer than the room,
 // and whoever writes may stop there.
-ghost use Prim.Native.Nat.{_≤_, _-_};
+ghost use Prim.Native.Nat.{_≤_, _<_, _-_};
 ghost use mathlib.Core.Path.{_≡_};
 ghost use mathlib.Core.List.{_++_};
-ghost use lib.ListN.{length, take, replicate};
+ghost use lib.ListN.{length, take, replicate, set};
 ghost use Rattle.room.specs.Room.{filling, putOne, puts};
 
 // Where the next byte goes, and whether a byte before it found no room.
 pub struct Spot {
     pub at: usize,
     pub over: bool,
+}
+
+// A byte in its place: no other function stores.
+fn store(room: &mut [u8], at: usize, b: u8)
+    requires { ⌜ at < length (now room) ⌝ }
+    ensures { λ r. ⌜ now (room .exit) ≡ set (now (room .entry)) at b ⌝ }
+{
+    room[at] = b;
 }
 
 // One byte.
@@ -22,7 +30,7 @@ pub fn put(room: &mut [u8], spot: Spot, b: u8) -> Spot
         return spot;
     }
     if at < room.len() {
-        room[at] = b;
+        store(room, at, b);
         return Spot {
             at: at + 1,
             over: false,
@@ -51,7 +59,7 @@ pub fn clear(room: &mut [u8], from: usize)
 {
     let mut i = from;
     while i < room.len() {
-        room[i] = 0;
+        store(room, i, 0);
         i += 1;
     }
 }

@@ -1,10 +1,9 @@
 use borrow.Author.Needs.{needs}
-use native.Mathlib.Omega.{arith}
-use Prim.Native.Nat.{_-_, _≤_}
+use Prim.Native.Nat.{_+_, _-_, _≤_}
 use denote.Ref.{now}
-use mathlib.Core.Path.{_≡_}
+use mathlib.Core.Path.{_≡_, ap, _∙_}
 use mathlib.Core.List.{_++_}
-use lib.ListN.{length, take, replicate, length-set}
+use lib.ListN.{length, take, replicate}
 use Rattle.room.proofs.Puts.{clear-step, clear-start, clear-end}
 use Rattle.room.proofs.clear.Statement.{statement}
 use Rattle.room.proofs.clear.Tie as tie
@@ -16,10 +15,10 @@ abbrev μ-loop : tie.MeasureT-loop
 μ-loop room₀ from i₀ room i = length room₀ - i
 
 loop-holds : tie.Need-loop-holds Inv-loop μ-loop
-loop-holds c = (search needs, search needs, search needs, clear-start (now (c .args .room)) (c .args .from))
+loop-holds c = (search needs, search needs, search needs, clear-start (now (c .before .args .room)) (c .before .args .from))
 
-slice-write-room : tie.Need-slice-write-room Inv-loop μ-loop
-slice-write-room c = search needs
+store-requires : tie.Need-store-requires Inv-loop μ-loop
+store-requires c κs = search needs
 
 add-i : tie.Need-add-i Inv-loop μ-loop
 add-i c = search needs
@@ -29,9 +28,11 @@ loop-less c = search needs
 
 loop-again : tie.Need-loop-again Inv-loop μ-loop
 loop-again c =
-    let at = c .before .loop in
-    let a = c .before .before .args in
-    (search needs, simp length-set (omega arith), search needs, clear-step (at .room) (take (a .from) (now (a .room))) (a .from) (at .i) (at .inv .0) (c .loop-test .taken) (at .inv .3))
+    let x = c .before .before in
+    let t = x .before .before in
+    let at = t .before .loop in
+    let a = t .before .before .before .args in
+    (search needs, search needs, search needs, ap (λ l. take (at .i + 1) l) (x .store .ensures) ∙ clear-step (at .room) (take (a .from) (now (a .room))) (a .from) (at .i) (at .inv .0) (t .loop-test .taken) (at .inv .3))
 
 same-length : tie.Need-same-length Inv-loop μ-loop
 same-length c = search needs
@@ -39,7 +40,7 @@ same-length c = search needs
 returns : tie.Need-returns Inv-loop μ-loop
 returns c =
     let at = c .before .loop in
-    let a = c .before .before .args in
+    let a = c .before .before .before .args in
     clear-end (at .room) (take (a .from) (now (a .room))) (a .from) (at .i) (length (now (a .room))) (at .inv .1) (c .loop-test .left) (at .inv .2) (at .inv .3)
 
 pub clear-spec : {M : Type 1} → statement M
@@ -49,7 +50,7 @@ clear-spec =
     Inv-loop
     μ-loop
     loop-holds
-    slice-write-room
+    store-requires
     add-i
     loop-less
     loop-again
