@@ -60,7 +60,7 @@ pub fn sums_back(
     s: usize,
     edges: usize,
 )
-    requires { ⌜ (0 < n) × (n ≤ mostVertices) × (s < n) × (edges ≤ n) ⌝ }
+    requires { ⌜ (0 < n) × (n ≤ mostVertices) × (s < n) × (edges < n) ⌝ }
     requires { ⌜ Sized mostVertices (now g) × AllWithin farN n (now g) ⌝ }
     requires { ⌜ length (now row) ≡ mostVertices ⌝ }
     ensures { λ _. ⌜ Back (now (g .entry)) n s edges (now (row .exit)) ⌝ }
@@ -81,7 +81,7 @@ pub fn closing_sum(
     s: usize,
     edges: usize,
 ) -> i64
-    requires { ⌜ (0 < n) × (n ≤ mostVertices) × (s < n) × (edges ≤ n) ⌝ }
+    requires { ⌜ (0 < n) × (n ≤ mostVertices) × (s < n) × (edges < n) ⌝ }
     requires { ⌜ Sized mostVertices (now g) × AllWithin farN n (now g) ⌝ }
     requires { ⌜ length (now row) ≡ mostVertices ⌝ }
     ensures { λ r. ⌜ (r ≡ best (weight (now (g .entry))) (n - 1) edges s s) × (length (now (row .exit)) ≡ mostVertices) ⌝ }

@@ -35,7 +35,7 @@ closing-sum-requires : tie.Need-closing-sum-requires Inv-loop μ-loop Inv-search
 closing-sum-requires c κs =
     let l = c .before .before in
     let z = l .before .before .before in
-    ((z .pre .0 .0, z .pre .0 .1, c .before .loop-test .taken, omega (arith, l .before .search-test .taken)), (z .pre .1, l .loop .inv .2))
+    ((z .pre .0 .0, z .pre .0 .1, c .before .loop-test .taken, l .before .search-test .taken), (z .pre .1, l .loop .inv .2))
 
 -- the closing sum that is tested
 sum-fits : (c : tie.After-closing-sum Inv-loop μ-loop Inv-search μ-search) → SFits w64 (c .closing-sum .result)

@@ -52,7 +52,7 @@ least-sum-requires c κs =
     let hn : (0 < a .n) × (a .n ≤ mostVertices) = (z .pre .0 .0, z .pre .0 .1) in (
       hn,
       (
-        row-within farN (a .n) (now (a .g)) (z .pre .1 .0 .0) (hn .1) (z .pre .1 .0 .1) (omega arith) (a .s) (z .pre .0 .2),
+        row-within farN (a .n) (now (a .g)) (z .pre .1 .0 .0) (hn .1) (z .pre .1 .0 .1) (omega arith) _ (omega (arith, z .pre .0)),
         back-within (now (a .g)) (a .n) hn (z .pre .1 .0 .1) (a .s) (a .edges - 1) _ (z .pre .0 .2) (omega (arith, z .pre .0)) (b .sums-back .ensures),
       ),
     )
