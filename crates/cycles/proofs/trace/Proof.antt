@@ -44,7 +44,7 @@ sums-back-requires : tie.Need-sums-back-requires Inv-loop μ-loop
 sums-back-requires c κs =
     let l = c .before .before .loop in
     let z = c .before .before .before in
-    ((z .pre .0 .0, z .pre .0 .1, z .pre .0 .2, omega (arith, z .pre .0)), (z .pre .1 .0, l .inv .2))
+    ((z .pre .0 .0, z .pre .0 .1, omega (arith, z .pre .0, l .inv .3 .here), omega (arith, z .pre .0)), (z .pre .1 .0, l .inv .2))
 
 mul-first-closing : tie.Need-mul-first-closing Inv-loop μ-loop
 mul-first-closing c = search needs
@@ -63,7 +63,7 @@ first-closing-requires c κs =
         bounded-more (l .i * farN) wide (toZ w64 (l .sum)) (omega (arith, z .pre .0)) (l .inv .3 .small),
         (
           row-within farN (z .args .n) (now (z .args .g)) (z .pre .1 .0 .0) (hn .1) (z .pre .1 .0 .1) (omega arith) (l .at) (l .inv .3 .here),
-          back-within (now (z .args .g)) (z .args .n) hn (z .pre .1 .0 .1) (z .args .start) (z .args .count - 1 - l .i) _ (z .pre .0 .2) (omega (arith, z .pre .0)) (b .sums-back .ensures),
+          back-within (now (z .args .g)) (z .args .n) hn (z .pre .1 .0 .1) _ (z .args .count - 1 - l .i) _ (omega (arith, z .pre .0, l .inv .3 .here)) (omega (arith, z .pre .0)) (b .sums-back .ensures),
         ),
       ),
     )
