@@ -42,7 +42,8 @@ fn used(asked: u8, question: &[u8]) -> [usize; 3] {
     let mut room = vec![0; ASK_ROOM];
     let mut written = Ok(0);
     let verdict = paint::used(|| _ = library::verdict(asked, question));
-    let write = paint::used(|| written = library::write(asked, question, &mut room).map(|(_, length)| length));
+    let write =
+        paint::used(|| written = library::write(asked, question, &mut room).map(|(_, length)| length));
     let sheet = &room[..written.unwrap_or(ASK_ROOM)];
     let check = paint::used(|| _ = library::check(asked, question, sheet));
     [verdict, write, check]
