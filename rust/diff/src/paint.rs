@@ -15,7 +15,7 @@ const NEAR: usize = 4_096;
 /// How far down is painted.
 const FAR: usize = 6 << 20;
 
-/// The bytes of stack that the call uses, on a thread of its own with the stack that the header asks for.
+/// The bytes of stack that the call uses, on a thread of its own.
 pub fn used(call: impl FnOnce() + Send) -> usize {
     on_promised_stack(|| {
         let mark = 0_u64;
