@@ -1,7 +1,7 @@
 # The commands of the project. `make test` is the gate.
 SHELL := /bin/bash
 .SHELLFLAGS := -euo pipefail -c
-.PHONY: test house programs run twelve published refusals lib timed soak slow bench count fmt
+.PHONY: test house programs run twelve published refusals lib timed soak slow bench count stack fmt
 
 cargo = cargo $(1) --quiet --offline --release --manifest-path rust/Cargo.toml
 
@@ -54,7 +54,7 @@ timed: lib
 else
 timed:
 	rust/native-lib.sh
-bench slow count: export SLUSHTROWEL_LIB := $(CURDIR)/target/native
+bench slow count stack: export SLUSHTROWEL_LIB := $(CURDIR)/target/native
 endif
 
 # A search for the slowest answers, for so many seconds from a seed: the worst of each routine with its question.
@@ -72,6 +72,10 @@ bench: timed
 WORD ?=
 count: timed
 	$(call cargo,run) -p diff --bin count -- $(WORD)
+
+# The most stack that a verdict, a sheet and a check take, by painting a thread's stack.
+stack: timed
+	$(call cargo,run) -p diff --bin stack
 
 fmt:
 	rt fmt

@@ -1,5 +1,5 @@
 -- What the nested loops have found: the first edge count, and its first start, with a negative closing sum.
-use Prim.Native.Nat.{ℕ, zero, suc, _+_, _≤_, _<_}
+use Prim.Native.Nat.{ℕ, suc, _+_, _≤_, _<_}
 use mathlib.Core.Path.{_≡_, ap, _∙_}
 use mathlib.Core.Bool.{true, false}
 use native.Mathlib.Omega.{arith}
@@ -8,7 +8,7 @@ use borrow.Author.Tests.{lt-ltb, le-ltb}
 use lib.Dec.{ltb}
 use lib.IntN.{ℤ, pos}
 use lib.Signed.{ltZ}
-use Rattle.page_walks.specs.Search.{best, first, start, fewest}
+use Rattle.page_walks.specs.Search.{best, start, fewest}
 use Rattle.cycles.specs.Found.{countOf, Opens}
 use Rattle.page_walks.proofs.Bests.{first-at}
 

@@ -13,7 +13,7 @@ use Rattle.page_meaning.specs.Limits.{mostVertices}
 use Rattle.page_walks.specs.Grid.{Grid, row, weight, farN}
 use Rattle.page_walks.specs.Sizes.{Bounded, AllWithin, Sized}
 use Rattle.page_walks.specs.Search.{first, best, test, greedy}
-use Rattle.cycles.specs.Found.{Ways}
+use Rattle.sums.specs.Back.{Back}
 use Rattle.page_walks.proofs.Searches.{step}
 use Rattle.page_walks.proofs.Rows.{read}
 use Rattle.page_walks.proofs.Sums.{bounded-more, bounded-plus}
@@ -38,21 +38,21 @@ module _ (g : Grid) (n s count : ℕ) (hn : (0 < n) × (n ≤ mostVertices) × (
   }
 
   -- what the code takes for the next vertex
-  module _ (ways : Grid) (z : Sized mostVertices g) (m : Ways g n s count ways) (i : ℕ) (hi : i < count) (l : List ℕ) (at : ℕ) (sum : ℤ) (t : Traced g n s count i l at sum) where
+  module _ (z : Sized mostVertices g) (i : ℕ) (hi : i < count) (on : List ℤ) (m : Back g n s (count - 1 - i) on) (l : List ℕ) (at : ℕ) (sum : ℤ) (t : Traced g n s count i l at sum) where
     -- edges left after this one, less one
     left : suc (count - 1 - i) ≡ count - i
     left = omega arith
 
-    next-is : first (λ u. ltZ ((sum +ℤ getD (row g at) u (pos 0)) +ℤ getD (row ways (count - 1 - i)) u (pos 0)) (pos 0)) n ≡ first (test (weight g) (n - 1) (count - 1 - i) s sum at) (suc (n - 1))
+    next-is : first (λ u. ltZ ((sum +ℤ getD (row g at) u (pos 0)) +ℤ getD on u (pos 0)) (pos 0)) n ≡ first (test (weight g) (n - 1) (count - 1 - i) s sum at) (suc (n - 1))
     unfolding test
     next-is =
         let e : suc (n - 1) ≡ n = omega (arith, hn) in
-        rw e (first-same _ _ n (λ u hu. ap₂ (λ x y. ltZ ((sum +ℤ x) +ℤ y) (pos 0)) (read mostVertices g at u z (omega (arith, hn, t .here)) (omega (arith, hn))) (read mostVertices ways (count - 1 - i) u (m .sized) (omega (arith, hn)) (omega (arith, hn)) ∙ m .way-is (count - 1 - i) u (omega arith) hu)))
+        rw e (first-same _ _ n (λ u hu. ap₂ (λ x y. ltZ ((sum +ℤ x) +ℤ y) (pos 0)) (read mostVertices g at u z (omega (arith, hn, t .here)) (omega (arith, hn))) (m .sum-is u hu)))
 
     ok : (first (test (weight g) (n - 1) (count - 1 - i) s sum at) (suc (n - 1)) < suc (n - 1)) × (((sum +ℤ weight g at (first (test (weight g) (n - 1) (count - 1 - i) s sum at) (suc (n - 1)))) +ℤ best (weight g) (n - 1) (count - 1 - i) s (first (test (weight g) (n - 1) (count - 1 - i) s sum at) (suc (n - 1)))) <ℤ pos 0)
     ok = step (weight g) (n - 1) (count - 1 - i) s sum at (rw (← left) at (t .negative))
 
-    module _ (u : ℕ) (e : u ≡ first (λ u. ltZ ((sum +ℤ getD (row g at) u (pos 0)) +ℤ getD (row ways (count - 1 - i)) u (pos 0)) (pos 0)) n) where
+    module _ (u : ℕ) (e : u ≡ first (λ u. ltZ ((sum +ℤ getD (row g at) u (pos 0)) +ℤ getD on u (pos 0)) (pos 0)) n) where
       u-is : u ≡ first (test (weight g) (n - 1) (count - 1 - i) s sum at) (suc (n - 1))
       u-is = e ∙ next-is
 

@@ -3,15 +3,12 @@ use mathlib.Core.Path.{_≡_}
 use mathlib.Core.Bool.{cond}
 use mathlib.Core.Option.{Option, none, some}
 use mathlib.Core.List.{List}
-use Prim.Native.Nat.{ℕ, suc, _-_, _<_}
+use Prim.Native.Nat.{ℕ, suc, _<_}
 use lib.ListN.{take}
 use lib.Dec.{eqb, ltb}
 use lib.IntN.{ℤ}
 use Rattle.cycles.specs.declared.Cycle.{Cycle}
-use Rattle.page_meaning.specs.Limits.{mostVertices}
-use Rattle.page_walks.specs.Grid.{Grid, weight}
-use Rattle.page_walks.specs.Sizes.{Sized}
-use Rattle.page_walks.specs.Search.{best, start, fewest}
+use Rattle.page_walks.specs.Search.{start, fewest}
 
 -- the list that a Cycle stands for: count 0 is none
 unfoldable pub cycleOf : Cycle → Option (List ℕ)
@@ -25,8 +22,3 @@ countOf w n = cond (ltb (fewest w n) (suc n)) (suc (fewest w n)) 0
 pub record Opens (w : ℕ → ℕ → ℤ) (n : ℕ) (count s : ℕ) : Type 0 where
   pub count-is : count ≡ countOf w n
   pub start-is : 0 < count → s ≡ start w n (fewest w n)
-
--- the first count rows of h: row j holds the least sums of the walks with j + 1 edges back to s
-pub record Ways (g : Grid) (n s count : ℕ) (h : Grid) : Type 0 where
-  pub sized : Sized mostVertices h
-  pub way-is : (j v : ℕ) → j < count → v < n → weight h j v ≡ best (weight g) (n - 1) j s v

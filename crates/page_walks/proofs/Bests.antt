@@ -46,9 +46,6 @@ row-within b n g s h all hb u hu = record { entry = λ v hv. rw (read mostVertic
 pub least-edges : (n : ℕ) (g : Grid) (on : ℕ → ℤ) → Sized mostVertices g → (0 < n) × (n ≤ mostVertices) → (v : ℕ) → v < n → least (λ u. getD (row g v) u (pos 0) +ℤ on u) (n - 1) ≡ least (λ u. weight g v u +ℤ on u) (n - 1)
 least-edges n g on s h v hv = least-same _ _ (n - 1) (λ u l. ap (λ z. z +ℤ on u) (read mostVertices g v u s (omega (arith, h .1)) (omega (arith, h))))
 
-pub least-onward : (n : ℕ) (sums : Grid) (w : ℕ → ℕ → ℤ) → Sized mostVertices sums → (0 < n) × (n ≤ mostVertices) → (s v : ℕ) → s < n → least (λ u. w v u +ℤ getD (row sums s) u (pos 0)) (n - 1) ≡ least (λ u. w v u +ℤ weight sums s u) (n - 1)
-least-onward n sums w z h s v hs = least-same _ _ (n - 1) (λ u l. ap (λ x. w v u +ℤ x) (read mostVertices sums s u z (omega (arith, h .1)) (omega (arith, h))))
-
 module _ (g : Grid) (n : ℕ) (hn : 0 < n) (all : AllWithin farN n g) where
   -- each edge adds far at most
   pub best-bounded : (k s v : ℕ) → s < n → v < n → Bounded (suc k * farN) (best (weight g) (n - 1) k s v)

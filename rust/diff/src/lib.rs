@@ -5,6 +5,7 @@ pub mod hunt;
 pub mod library;
 pub mod load;
 pub mod machine;
+pub mod paint;
 pub mod smt;
 pub mod times;
 pub mod z3;

@@ -12,7 +12,6 @@ use lib.Signed.{ltZ}
 use mir.Syntax.{w64}
 use mir.Val.{SFits, toZ, ofZ}
 use mir.Facts.{toZ-ofZ}
-use Rattle.page_walks.proofs.Rows.{read}
 use Rattle.page_walks.proofs.Sums.{exact-two, exact-three}
 use Rattle.page_walks.proofs.Bests.{first-at}
 use Rattle.cycles.proofs.first_closing.Statement.{statement}
@@ -34,8 +33,8 @@ loop-holds c = (search needs, λ i h. absurd (omega arith))
 mul-if1 : tie.Need-mul-if1 Inv-loop μ-loop
 mul-if1 c = search needs
 
-shared-slice-copy-out-if1 : tie.Need-shared-slice-copy-out-if1 Inv-loop μ-loop
-shared-slice-copy-out-if1 c = search needs
+element-copy-out-if1 : tie.Need-element-copy-out-if1 Inv-loop μ-loop
+element-copy-out-if1 c = search needs
 
 -- the numbers that are read, and their sums
 edge-fits : (c : tie.After-if12 Inv-loop μ-loop) → SFits w64 (getD (now (c .before .before .before .args .edges)) (c .before .before .loop .u) (pos 0))
@@ -59,8 +58,8 @@ add-if1 c = simp (toZ-ofZ, c .before .before .before .fits .sum, edge-fits c) (t
 mul-if1-2 : tie.Need-mul-if1-2 Inv-loop μ-loop
 mul-if1-2 c = search needs
 
-shared-slice-copy-out-if1-2 : tie.Need-shared-slice-copy-out-if1-2 Inv-loop μ-loop
-shared-slice-copy-out-if1-2 c = search needs
+element-copy-out-if1-2 : tie.Need-element-copy-out-if1-2 Inv-loop μ-loop
+element-copy-out-if1-2 c = search needs
 
 add-if1-2 : tie.Need-add-if1-2 Inv-loop μ-loop
 add-if1-2 c = simp (toZ-ofZ, c .before .before .before .before .fits .sum, edge-fits (c .before), on-fits c, two-fits (c .before)) (three-fits c)
@@ -101,10 +100,10 @@ first-closing-spec =
     μ-loop
     loop-holds
     mul-if1
-    shared-slice-copy-out-if1
+    element-copy-out-if1
     add-if1
     mul-if1-2
-    shared-slice-copy-out-if1-2
+    element-copy-out-if1-2
     add-if1-2
     returns
     add-u

@@ -28,29 +28,23 @@ more c = let h = c .if1 .left in omega arith
 closes : (c : tie.Else1) → let a = c .before .before .args in let o = c .before .shortest .result in Closes (weight (now (a .g))) (a .n - 1) (o .count) (o .start)
 closes c = let a = c .before .before .args in one-found (weight (now (a .g))) (a .n - 1) _ _ (c .before .shortest .ensures) (more c)
 
-ways-requires : tie.Need-ways-requires
-ways-requires c κs =
-    let z = c .before .before .before .before in
-    let f = closes (c .before .before) in
-    let m : suc (z .args .n - 1) ≡ z .args .n = omega (arith, z .pre .0) in
-    ((z .pre .0 .0, z .pre .0 .1, omega (arith, f .here), more (c .before .before), omega (arith, f .few)), (z .pre .1, z .pre .1 .0))
-
 trace-requires : tie.Need-trace-requires
 trace-requires c κs =
-    let z = c .before .before .before .before .before .before in
-    let f = closes (c .before .before .before .before) in
+    let z = c .before .before in
+    let f = closes c in
     let m : suc (z .args .n - 1) ≡ z .args .n = omega (arith, z .pre .0) in
-    ((z .pre .0 .0, z .pre .0 .1, omega (arith, f .here), more (c .before .before .before .before), omega (arith, f .few)), (z .pre .1, (c .before .ways .ensures, f .negative)))
+    ((z .pre .0 .0, z .pre .0 .1, omega (arith, f .here), more c, omega (arith, f .few)), (z .pre .1, f .negative))
 
 returns-2 : tie.Need-returns-2
 returns-2 c =
-    let z = c .before .before .before .before .before .before .before in
+    let e = c .before in
+    let z = e .before .before in
     let a = z .args in
-    let o = c .before .before .before .before .before .before .shortest .result in
-    let f = closes (c .before .before .before .before .before) in (
-      cycle-some (c .trace .result) (o .count) (o .start ∷ greedy (weight (now (a .g))) (a .n - 1) (o .count - 1) (o .start) (pos 0) (o .start)) (more (c .before .before .before .before .before)) (c .trace .ensures .0) (c .trace .ensures .1) ∙ sym (f .answer),
+    let o = e .before .shortest .result in
+    let f = closes e in (
+      cycle-some (c .trace .result) (o .count) (o .start ∷ greedy (weight (now (a .g))) (a .n - 1) (o .count - 1) (o .start) (pos 0) (o .start)) (more e) (c .trace .ensures .0) (c .trace .ensures .1) ∙ sym (f .answer),
       omega (arith, f .few, c .trace .ensures .0, z .pre .0),
     )
 
 pub search-spec : {M : Type 1} → statement M
-search-spec = tie.close (tie.spec shortest-requires returns ways-requires trace-requires returns-2)
+search-spec = tie.close (tie.spec shortest-requires returns trace-requires returns-2)

@@ -3,24 +3,23 @@ use Prim.Native.Nat.{_-_, _≤_}
 use native.Mathlib.Omega.{arith}
 use borrow.Author.Needs.{needs}
 use denote.Ref.{now}
-use lib.ListN.{length, length-set}
 use mir.Facts.{toZ-ofZ}
 use Rattle.page_meaning.specs.Limits.{mostVertices}
 use Rattle.page_walks.specs.Grid.{weight}
 use Rattle.page_walks.specs.Sizes.{filled}
 use Rattle.page_walks.proofs.Rows.{filled-more, read}
-use Rattle.cycles.proofs.column.Statement.{statement}
-use Rattle.cycles.proofs.column.Tie as tie
+use Rattle.sums.proofs.column.Statement.{statement}
+use Rattle.sums.proofs.column.Tie as tie
 
 abbrev Inv-loop : tie.InvT-loop
-Inv-loop g row₀ n s v₀ row v = (v ≤ n) × (length row ≡ length row₀) × (row ≡ filled (λ v. weight g v s) v row₀)
+Inv-loop g row₀ n s v₀ row v = (v ≤ n) × (row ≡ filled (λ v. weight g v s) v row₀)
 
 abbrev μ-loop : tie.MeasureT-loop
 μ-loop g row₀ n s v₀ row v = n - v
 
 loop-holds : tie.Need-loop-holds Inv-loop μ-loop
 unfolding filled
-loop-holds c = (search needs, refl, refl)
+loop-holds c = (search needs, refl)
 
 mul-row : tie.Need-mul-row Inv-loop μ-loop
 mul-row c = search needs
@@ -37,8 +36,8 @@ index-2-row c = search needs
 mul-t14 : tie.Need-mul-t14 Inv-loop μ-loop
 mul-t14 c = search needs
 
-slice-set-from-row : tie.Need-slice-set-from-row Inv-loop μ-loop
-slice-set-from-row c = search needs
+element-set-from-row : tie.Need-element-set-from-row Inv-loop μ-loop
+element-set-from-row c = search needs
 
 add-v : tie.Need-add-v Inv-loop μ-loop
 add-v c = search needs
@@ -51,18 +50,14 @@ loop-again c =
     let l = c .before .before .loop in
     let s = c .before .before .before in (
       search needs,
-      length-set (l .row) (l .v) _ ∙ l .inv .1,
-      filled-more _ (l .v) (now (s .args .row)) (l .row) _ (l .inv .2)
-          (toZ-ofZ (record { sfits = c .row .given }) ∙ read mostVertices (now (s .args .g)) (l .v) (s .args .s) (s .pre .3) (omega (arith, s .pre .0, s .pre .1, c .before .loop-test .taken)) (omega (arith, s .pre .0, s .pre .1))),
+      filled-more _ (l .v) (now (s .args .row)) (l .row) _ (l .inv .1)
+          (toZ-ofZ (record { sfits = c .row .given }) ∙ read mostVertices (now (s .args .g)) (l .v) (s .args .s) (s .pre .2) (omega (arith, s .pre .0, s .pre .1, c .before .loop-test .taken)) (omega (arith, s .pre .0, s .pre .1))),
     )
-
-same-length : tie.Need-same-length Inv-loop μ-loop
-same-length c = search needs
 
 returns : tie.Need-returns Inv-loop μ-loop
 returns c =
     let all : c .before .loop .v ≡ c .before .before .args .n = omega arith in
-    rw all at (c .before .loop .inv .2)
+    rw all at (c .before .loop .inv .1)
 
 pub column-spec : {M : Type 1} → statement M
 column-spec =
@@ -76,9 +71,8 @@ column-spec =
     index-1-row
     index-2-row
     mul-t14
-    slice-set-from-row
+    element-set-from-row
     add-v
     loop-less
     loop-again
-    same-length
     returns)

@@ -11,11 +11,10 @@ use mir.Val.{SFits, toZ}
 use mir.Facts.{toZ-ofZ}
 use Rattle.page_numbers.specs.Numbers.{minZ}
 use Rattle.page_walks.specs.Search.{least}
-use Rattle.page_walks.proofs.Rows.{read}
 use Rattle.page_walks.proofs.Sums.{exact-two}
 use Rattle.page_walks.proofs.Bests.{least-more}
-use Rattle.cycles.proofs.least_sum.Statement.{statement}
-use Rattle.cycles.proofs.least_sum.Tie as tie
+use Rattle.sums.proofs.least_sum.Statement.{statement}
+use Rattle.sums.proofs.least_sum.Tie as tie
 
 -- an edge to u and the way on from there
 abbrev onward : List ℤ → List ℤ → ℕ → ℤ
@@ -27,11 +26,11 @@ Inv-loop edges on n sum₀ u₀ sum u = (0 < u) × (u ≤ n) × (toZ w64 sum ≡
 abbrev μ-loop : tie.MeasureT-loop
 μ-loop edges on n sum₀ u₀ sum u = n - u
 
-shared-slice-copy-out-sum : tie.Need-shared-slice-copy-out-sum Inv-loop μ-loop
-shared-slice-copy-out-sum c = search needs
+element-copy-out-sum : tie.Need-element-copy-out-sum Inv-loop μ-loop
+element-copy-out-sum c = search needs
 
-shared-slice-copy-out-sum-2 : tie.Need-shared-slice-copy-out-sum-2 Inv-loop μ-loop
-shared-slice-copy-out-sum-2 c = search needs
+element-copy-out-sum-2 : tie.Need-element-copy-out-sum-2 Inv-loop μ-loop
+element-copy-out-sum-2 c = search needs
 
 -- the numbers that are read, and their sums
 first-edge : (c : tie.After-sum2 Inv-loop μ-loop) → SFits w64 (getD (now (c .before .before .args .edges)) 0 (pos 0))
@@ -65,14 +64,14 @@ loop-holds c = (search needs, c .before .before .pre .0 .0, simp (toZ-ofZ, first
 mul-other : tie.Need-mul-other Inv-loop μ-loop
 mul-other c = search needs
 
-shared-slice-copy-out-other : tie.Need-shared-slice-copy-out-other Inv-loop μ-loop
-shared-slice-copy-out-other c = search needs
+element-copy-out-other : tie.Need-element-copy-out-other Inv-loop μ-loop
+element-copy-out-other c = search needs
 
 mul-other-2 : tie.Need-mul-other-2 Inv-loop μ-loop
 mul-other-2 c = search needs
 
-shared-slice-copy-out-other-2 : tie.Need-shared-slice-copy-out-other-2 Inv-loop μ-loop
-shared-slice-copy-out-other-2 c = search needs
+element-copy-out-other-2 : tie.Need-element-copy-out-other-2 Inv-loop μ-loop
+element-copy-out-other-2 c = search needs
 
 add-other : tie.Need-add-other Inv-loop μ-loop
 add-other c = simp (toZ-ofZ, other-edge c, other-on c) (other-fits c)
@@ -109,14 +108,14 @@ least-sum-spec =
     (tie.spec
     Inv-loop
     μ-loop
-    shared-slice-copy-out-sum
-    shared-slice-copy-out-sum-2
+    element-copy-out-sum
+    element-copy-out-sum-2
     add-sum
     loop-holds
     mul-other
-    shared-slice-copy-out-other
+    element-copy-out-other
     mul-other-2
-    shared-slice-copy-out-other-2
+    element-copy-out-other-2
     add-other
     lesser-requires
     add-u
