@@ -9,7 +9,6 @@ use Rattle.page_walks.specs.Grid.{Grid}
 use Rattle.page_walks.specs.Walk.{Below}
 use Rattle.page_formulas.specs.Program.{places}
 use Rattle.page_formulas.specs.Formulas.{Formula}
-use Rattle.program.specs.declared.types.Formula as compiled
 use Rattle.truth.specs.Cells.{bit}
 use Rattle.page_formulas.specs.Vertices.{Ranges}
 use Rattle.checker_trees.specs.declared.nodes.Past.{Past}

@@ -23,7 +23,7 @@ use Rattle.page_formulas.proofs.Readings.{insertion-fits, deletion-fits, modifi
 use Rattle.program.specs.Built.{Means}
 use Rattle.sights.specs.Seen.{modesOf}
 use Rattle.program.specs.Compiled.{Compiled, Spans}
-use Rattle.program.specs.declared.types.Formula as compiled
+use Rattle.program.specs.Held as compiled
 use Rattle.formula.specs.Able.{Able, Buildable, formulaAt, noRow, firstOf, restOf, lineBy, lineFor, conditionFor, modesFor, rowsOf, wordsOf, Numbered, Tabled, Done}
 use Rattle.formula.specs.declared.types.Line as declared
 use Rattle.formula.specs.declared.types.Deed as types

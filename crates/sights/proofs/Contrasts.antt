@@ -2,7 +2,7 @@
 use mathlib.Core.Path.{_≡_, refl, sym, ap, _∙_}
 use mathlib.Core.Bool.{Bool, true, false, cond}
 use mathlib.Core.List.{List, [], _∷_, _++_}
-use Prim.Native.Nat.{ℕ, suc, _+_, _-_, _*_, _≤_}
+use Prim.Native.Nat.{ℕ, _+_, _-_, _*_, _≤_}
 use native.Mathlib.Numerals.{add-one}
 use native.Mathlib.Omega.{arith}
 use lib.ListN.{length, getD, drop, drop-of-length-le}
@@ -16,7 +16,7 @@ use Rattle.page_formulas.specs.Compile.{comparison}
 use Rattle.page_formulas.specs.Compile as C
 use Rattle.page_formulas.specs.Formulas.{differsNew, differsOver}
 use Rattle.program.specs.Built.{Room, Builds}
-use Rattle.program.specs.declared.types.Program.{Program}
+use Rattle.program.specs.Held.{Program}
 use Rattle.sights.specs.Seen.{flagsOf, shownFrom, visibleOf, modeIn, sightOf, Has, Usable}
 use Rattle.sights.specs.Partway.{Partway, differsAt}
 use Rattle.sights.specs.declared.types.Sight.{Sight}

@@ -18,13 +18,14 @@ use Rattle.page_formulas.specs.Proper.{Proper}
 use Rattle.page_formulas.specs.Vertices.{present}
 use Rattle.page_formulas.proofs.Proper.{formulas-proper}
 use Rattle.program.specs.Compiled.{Compiled}
-use Rattle.program.specs.declared.types.Formula as compiled
+use Rattle.program.specs.Held as compiled
 use Rattle.formula.specs.Able.{formulaAt}
 use Rattle.page_sheets.specs.Grow.{openAt, growTree}
-use Rattle.page_sheets.specs.Rows.{noBytes}
+use Rattle.page_sheets.specs.Rows.{noBytes, Rowed}
 use Rattle.page_sheets.specs.Sheet.{lastVertex, header, sayYes, sayNo, sheetFor, verdictFor, findingOf, sheetOf}
 use Rattle.page_sheets.specs.Tree.{Tree}
 use Rattle.page_sheets.specs.Trees.{Finding, allShut, firstOpen, bytesAll}
+use Rattle.page_sheets.proofs.Alike.{rows-there}
 use Rattle.page_sheets.proofs.Findings.{all-at}
 use Rattle.page_sheets.proofs.Positions.{open-there}
 use Rattle.outcome.specs.Told.{verdictOf}
@@ -32,8 +33,7 @@ use Rattle.outcome.specs.declared.Verdict.{Verdict}
 use Rattle.room.specs.Room.{filling, puts}
 use Rattle.room.specs.declared.Spot.{Spot}
 use Rattle.room.proofs.Puts.{Stand, puts-append, puts-length, puts-fit, puts-past}
-use Rattle.writer_rows.specs.Rows.{Rowed, Alike}
-use Rattle.writer_rows.proofs.ShownFormulas.{rows-there}
+use Rattle.writer_rows.specs.Rows.{Alike}
 use Rattle.writer_trees.specs.Leaves.{FineOpen, Leaf}
 use Rattle.verdicts.specs.Finding.{Finds}
 use Rattle.writer.specs.Laying.{atStart, AllShut, OpenFirst, StandsIf, Lays}

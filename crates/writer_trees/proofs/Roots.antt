@@ -1,6 +1,6 @@
 -- The root of the descent: the closure of the ranges' facts, and the formula's tree.
 use Prim.Native.Nat.{ℕ, suc}
-use mathlib.Core.Path.{_≡_, refl, sym, ap, _∙_, subst}
+use mathlib.Core.Path.{_≡_, refl, sym, _∙_, subst}
 use mathlib.Core.List.{List, []}
 use native.Mathlib.Omega.{arith}
 use lib.ListN.{length, take}
@@ -10,8 +10,8 @@ use Rattle.page_walks.specs.Grid.{Grid}
 use Rattle.page_formulas.specs.Formulas.{Formula}
 use Rattle.page_formulas.specs.Program.{Values}
 use Rattle.page_formulas.specs.Proper.{Proper}
-use Rattle.page_formulas.proofs.Trees.{kinds-length}
 use Rattle.program.specs.Lent.{Coded}
+use Rattle.program.proofs.Lends.{kinds-long}
 use Rattle.page_sheets.specs.Facts.{start}
 use Rattle.page_sheets.specs.Grow.{openAt, growTree}
 use Rattle.page_sheets.specs.Sheet.{lastVertex}
@@ -23,11 +23,6 @@ use Rattle.program_tree.specs.Nodes.{Tree}
 use Rattle.writer_trees.specs.Trees.{Placing, fastAt}
 use Rattle.writer_trees.specs.Leaves.{Opening, Descendable, Leaf}
 use Rattle.writer_trees.proofs.Plants.{Begun, placing, planted-same}
-
--- ---- the parts that are lent are as long as said
-
-pub kinds-long : (F : Formula) (kinds : List ℕ) (n : ℕ) (left right : List ℕ) (most : List ℤ) (few : ℕ) → Coded F kinds n left right most few → length (take n kinds) ≡ n
-kinds-long F kinds n left right most few c = ap length (c .lent .kinds) ∙ kinds-length (F .program) ∙ sym (c .n-is)
 
 module _ (F : Formula) (kinds : List ℕ) (n : ℕ) (left right : List ℕ) (most : List ℤ) (few : ℕ) (c : Coded F kinds n left right most few) (p : Proper F) (t : Tree) (tells : Tells t (F .program)) (last-is : t .last ≡ length (F .ranges)) (near : Grid) (s : Begun F near) where
   abbrev facts : Grid
@@ -50,7 +45,7 @@ module _ (F : Formula) (kinds : List ℕ) (n : ℕ) (left right : List ℕ) (mos
 
     pub root-descendable : Descendable (take n kinds) (take few left) (take few right) (take few most) t near
     root-descendable = record {
-      short = omega (arith, kinds-long F kinds n left right most few c, c .n-is, p .short);
+      short = omega (arith, kinds-long c, c .n-is, p .short);
       places = subst (λ m. Placing m (take few left) (take few right) (take few most)) (sym last-is) (placing F kinds n left right most few c p);
       table = s .table;
       tight = subst (λ m. Tight (suc m) near) (sym last-is) (s .tight);
