@@ -39,9 +39,8 @@ fn lines(question: &[u8]) {
     }
 }
 
-// Of the input the first 4,096 bytes are read. No question is longer than 269 bytes: 8 to the changed table, 1 column count, 8
-// columns of 9, a condition of 59 (6 comparisons of 8, 10 other tokens, their count), 4 inserted rows of 8 values and their
-// count. So the first fault of a longer input, 9 at the latest, lies within the first 270.
+// Of the input the first 4,096 bytes are read. No question is as long (`LONGEST` in the crate limits), so the first fault of a
+// longer input, 9 at the latest, lies within them.
 fn main() {
     let mut input = io::buffer();
     let n = io::read_full(STDIN_FILENO, &mut input);

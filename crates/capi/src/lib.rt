@@ -21,11 +21,10 @@ fn byte_of(v: Verdict) -> u8
     }
 }
 
-#[no_mangle]
-pub extern "C" fn vu_verdict(asked: u8, question: &[u8], verdict: &mut u8, place: &mut u64) -> u8
-    ensures { λ r. ⌜ leaves r (now (verdict .exit)) (now (place .exit)) ≡ answer (verdictOf asked (now (question .entry))) ⌝ }
+// What a verdict or a check leaves: its result, and what stands behind its two pointers.
+fn leave(told: Judged, verdict: &mut u8, place: &mut u64) -> u8
+    ensures { λ r. ⌜ leaves r (now (verdict .exit)) (now (place .exit)) ≡ answer (answered.judgedOf told) ⌝ }
 {
-    let told = answers::verdict(asked, question);
     match told {
         Judged::Says(v) => {
             *verdict = byte_of(v);
@@ -38,6 +37,14 @@ pub extern "C" fn vu_verdict(asked: u8, question: &[u8], verdict: &mut u8, place
             number
         }
     }
+}
+
+#[no_mangle]
+pub extern "C" fn vu_verdict(asked: u8, question: &[u8], verdict: &mut u8, place: &mut u64) -> u8
+    ensures { λ r. ⌜ leaves r (now (verdict .exit)) (now (place .exit)) ≡ answer (verdictOf asked (now (question .entry))) ⌝ }
+{
+    let told = answers::verdict(asked, question);
+    leave(told, verdict, place)
 }
 
 #[no_mangle]
@@ -76,16 +83,5 @@ pub extern "C" fn vu_check(
     ensures { λ r. ⌜ leaves r (now (verdict .exit)) (now (place .exit)) ≡ answer (checkOf asked (now (question .entry)) (now (sheet .entry))) ⌝ }
 {
     let told = answers::check(asked, question, sheet);
-    match told {
-        Judged::Says(v) => {
-            *verdict = byte_of(v);
-            *place = 0;
-            0
-        }
-        Judged::Refused(number, at) => {
-            *verdict = NO_VERDICT;
-            *place = at as u64;
-            number
-        }
-    }
+    leave(told, verdict, place)
 }

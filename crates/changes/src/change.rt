@@ -5,7 +5,7 @@ ghost use lib.ListN.{length};
 ghost use Rattle.page_meaning.specs.Contents as meaning;
 ghost use Rattle.page_meaning.specs.Limits.{mostColumns, mostTokens, mostRows};
 ghost use Rattle.page_questions.specs.Reader.{insertAt, deleteAt, modifyAt, changeAt, andThen, found, bad};
-ghost use Rattle.question.specs.Held.{conditionOf, rowOf, settingOf};
+ghost use Rattle.question.specs.Held.{ChangeHeld, conditionOf, rowOf, settingOf};
 ghost use Rattle.changes.specs.Deeds.{DeedRead};
 ghost use Rattle.question.specs.Parts.{listOf, rangesAt};
 use crate::modes::Settings;
@@ -25,7 +25,6 @@ use question::types::Mode;
 use question::types::Row;
 use question::types::Setting;
 use question::types::Verb;
-use tokens::condition::Clause;
 use tokens::condition::always;
 use tokens::condition::condition_at;
 
@@ -36,20 +35,27 @@ pub struct Deed {
     pub next: usize,
 }
 
+// An insert of no row: what stands there where no change was read.
+pub fn no_change() -> Change
+    ensures { λ r. ⌜ ChangeHeld r ⌝ }
+{
+    Change {
+        verb: Verb::Insert,
+        rows: [Row {
+            values: [0i32; COLUMNS],
+        }; ROWS],
+        count: 0,
+        condition: always(),
+        settings: [Setting { mode: Mode::Keep }; COLUMNS],
+    }
+}
+
 fn no_deed(n: u8, at: usize) -> Deed
     ensures { λ r. ⌜ ((width : ℕ) → DeedRead width r (bad n at)) ⌝ }
 {
     Deed {
         answer: Answer::Refused(n, at),
-        change: Change {
-            verb: Verb::Insert,
-            rows: [Row {
-                values: [0i32; COLUMNS],
-            }; ROWS],
-            count: 0,
-            condition: always(),
-            settings: [Setting { mode: Mode::Keep }; COLUMNS],
-        },
+        change: no_change(),
         next: at,
     }
 }

@@ -2,6 +2,7 @@
 use checker_rows::fields::Reading;
 use checker_rows::fields::fields;
 use checker_rows::formulas::formula_met;
+use checker_rows::layout::field_at;
 use formula::formulas::formula_count;
 use formula::formulas::outline;
 use limits::INSTRUCTIONS;
@@ -60,7 +61,7 @@ fn rows_end(
     ensures { λ r. ⌜ ((F : spec.Formula) (q : meant.Question) → Compiled (formulaOf (now (kinds .entry)) (now (left .entry)) (now (right .entry)) (now (most .entry)) o) F → count ≡ rows.fields q F → judgedOf r ≡ noEnd q F (now (sheet .entry))) ⌝ }
 {
     let met = formula_met(kinds, left, right, most, o, sheet, count);
-    let ended = sheet.len() <= 8 + 4 * count;
+    let ended = sheet.len() <= field_at(count);
     ending(met, ended)
 }
 

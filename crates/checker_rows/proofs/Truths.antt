@@ -8,6 +8,7 @@ use lib.IntN.{ℤ, pos, _+ℤ_}
 use lib.Signed.{leZ}
 use lib.ListN.{length, getD, take, length-map, List·getD-map}
 use lib.Seq.{getD-take, length-take-le}
+use Rattle.page_meaning.specs.Limits.{mostDecisions}
 use Rattle.truth.specs.Cells.{bit}
 use Rattle.page_formulas.specs.Program.{Values, Place, test, truth, places}
 use Rattle.page_formulas.specs.Kinds.{nowhere, knownKinds}
@@ -35,7 +36,7 @@ settled fails b h s = h
 settled passes b h s = h
 settled open? b h s = s
 
-module _ (F : Formula) (ks ls rs : List ℕ) (ms : List ℤ) (lent : Lent (F .program) ks ls rs ms) (x : Values) (vals : List ℤ) (same : (v : ℕ) → getD vals v (pos 0) ≡ x v) (truths : List ℕ) (tested : Tested vals ls rs ms truths) (few : length ls ≤ 120) where
+module _ (F : Formula) (ks ls rs : List ℕ) (ms : List ℤ) (lent : Lent (F .program) ks ls rs ms) (x : Values) (vals : List ℤ) (same : (v : ℕ) → getD vals v (pos 0) ≡ x v) (truths : List ℕ) (tested : Tested vals ls rs ms truths) (few : length ls ≤ mostDecisions) where
   abbrev ds : List Bool
   ds = map bit (take (length ls) truths)
 

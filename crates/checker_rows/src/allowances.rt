@@ -1,4 +1,5 @@
 // FORMAT 8.3: which values may stand in a no sheet's fields: in range, and the inserted or the shared visible one where there is one.
+use crate::layout::field_at;
 use inserted::Fixed;
 use inserted::fixed_at;
 use question::types::Column;
@@ -85,12 +86,12 @@ pub fn field_allows(q: Question, i: usize, sheet: &[u8], j: usize) -> bool
     requires { ⌜ Whole q × (j < q .shape .total + q .shape .total) × (fieldAt j + 4 ≤ length (now sheet)) ⌝ }
     ensures { λ r. ⌜ r ≡ fieldOk (questionOf q) i (now (sheet .entry)) j (valueAt (now (sheet .entry)) j) ⌝ }
 {
-    let z = ints::read_i32(sheet, 8 + 4 * j);
+    let z = ints::read_i32(sheet, field_at(j));
     let n = q.shape.total;
     if j < n {
         return first_allows(q, i, j, z);
     }
     let c = j - n;
-    let shared = ints::read_i32(sheet, 8 + 4 * c);
+    let shared = ints::read_i32(sheet, field_at(c));
     second_allows(q, c, z, shared)
 }

@@ -1,6 +1,8 @@
 // FORMAT 8.3: the rows of a no sheet. Each field's value may stand there, and the formula is true at them.
+use crate::allowances::field_allows;
+use crate::layout::field_at;
 use question::types::Question;
-ghost use Prim.Native.Nat.{_+_, _≤_, _<_};
+ghost use Prim.Native.Nat.{_+_, _≤_};
 ghost use lib.ListN.{length};
 ghost use Rattle.question.specs.Held.{questionOf};
 ghost use Rattle.sights.specs.Seen.{Whole};
@@ -20,11 +22,11 @@ pub fn fields(q: Question, i: usize, sheet: &[u8], count: usize) -> Reading
 {
     let mut j: usize = 0;
     while j < count {
-        let at = 8 + 4 * j;
+        let at = field_at(j);
         if sheet.len() < at + 4 {
             return Reading::Refused(11, at);
         }
-        if crate::allowances::field_allows(q, i, sheet, j) {
+        if field_allows(q, i, sheet, j) {
             j += 1;
             continue;
         }

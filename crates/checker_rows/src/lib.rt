@@ -2,4 +2,5 @@
 mod allowances;
 pub mod fields;
 pub mod formulas;
+pub mod layout;
 mod values;

@@ -1,11 +1,12 @@
 // Whether a formula is true at given values of its vertices: every place is tested, and so the formula is known.
+use crate::layout::field_at;
 use limits::PLACES;
 use limits::VERTICES;
 use truth::knowing::Truth;
 use truth::knowing::known;
 ghost use Rattle.page_formulas.specs.Costs.{mostInstructions};
 ghost use mathlib.Core.Path.{_≡_};
-ghost use Prim.Native.Nat.{ℕ, _+_, _*_, _≤_, _<_};
+ghost use Prim.Native.Nat.{ℕ, _≤_, _<_};
 ghost use lib.ListN.{length, getD};
 ghost use lib.IntN.{pos, _+ℤ_};
 ghost use lib.Signed.{leZ};
@@ -26,7 +27,7 @@ pub fn values(sheet: &[u8], count: usize) -> [i64; VERTICES]
     let mut x: [i64; VERTICES] = [0; VERTICES];
     let mut j: usize = 0;
     while j < count {
-        let z = ints::read_i32(sheet, 8 + 4 * j);
+        let z = ints::read_i32(sheet, field_at(j));
         x[j + 1] = ints::weights::wide(z);
         j += 1;
     }

@@ -1,10 +1,10 @@
 -- The places of a formula that is lent are facts between its vertices, with small weights, whether they are taken as true or as false.
 use Prim.Native.Nat.{ℕ, zero, suc, _<_}
-use mathlib.Core.Path.{_≡_, sym, ap, _∙_, subst}
+use mathlib.Core.Path.{sym, subst}
 use mathlib.Core.Bool.{Bool, true, false}
 use mathlib.Core.List.{List, [], _∷_}
 use native.Mathlib.Omega.{arith}
-use lib.ListN.{length, getD, take, length-map}
+use lib.ListN.{length, getD, take}
 use lib.IntN.{ℤ, negsuc, negℤ}
 use Rattle.page_numbers.proofs.Bridge.{+up, +dn, neg-up, neg-dn}
 use Rattle.page_questions.specs.Accepted.{Every}
@@ -16,7 +16,7 @@ use Rattle.page_sheets.specs.Facts.{taken}
 use Rattle.page_sheets.proofs.Fit.{present-below}
 use Rattle.grid.specs.Edges.{Fact}
 use Rattle.program.specs.Lent.{placeAt, Coded}
-use Rattle.program.proofs.Lends.{lent-place}
+use Rattle.program.proofs.Lends.{lent-place, places-long}
 
 place-at : (ps : List Place) (P : Place → Type 0) → Every P ps → (k : ℕ) (d : Place) → k < length ps → P (getD ps k d)
 place-at [] P a k d h = absurd (omega arith)
@@ -33,14 +33,6 @@ module _ (F : Formula) (kinds : List ℕ) (n : ℕ) (left right : List ℕ) (mos
   abbrev ms : List ℤ
   ms = take few most
 
-  pub lengths : (length ls ≡ few) × (length rs ≡ few) × (length ms ≡ few)
-  lengths =
-      let d = c .few-is in (
-        ap length (c .lent .left) ∙ length-map (places (F .program)) (λ a. a .left) ∙ sym d,
-        ap length (c .lent .right) ∙ length-map (places (F .program)) (λ a. a .right) ∙ sym d,
-        ap length (c .lent .most) ∙ length-map (places (F .program)) (λ a. a .most) ∙ sym d,
-      )
-
   module _ (p : Proper F) where
     fact-of : (q : Place) → SmallPlace (F .ranges) q → (d : Bool) → Fact (length (F .ranges)) (taken q d .right) (taken q d .left) (taken q d .most)
     fact-of q s true = record { from-is = omega (arith, present-below (F .ranges) (q .right) (s .right-is)); to-is = omega (arith, present-below (F .ranges) (q .left) (s .left-is)); high = omega (arith, s .high); low = s .low }
@@ -52,4 +44,4 @@ module _ (F : Formula) (kinds : List ℕ) (n : ℕ) (left right : List ℕ) (mos
     }
 
     pub place-facts : (i : ℕ) → i < length ms → (d : Bool) → Fact (length (F .ranges)) (taken (placeAt ls rs ms i) d .right) (taken (placeAt ls rs ms i) d .left) (taken (placeAt ls rs ms i) d .most)
-    place-facts i h d = subst (λ q. Fact (length (F .ranges)) (taken q d .right) (taken q d .left) (taken q d .most)) (sym (lent-place (F .program) (take n kinds) ls rs ms (c .lent) i)) (fact-of (getD (places (F .program)) i nowhere) (place-at (places (F .program)) (SmallPlace (F .ranges)) (p .places-small) i nowhere (omega (arith, lengths .2, c .few-is))) d)
+    place-facts i h d = subst (λ q. Fact (length (F .ranges)) (taken q d .right) (taken q d .left) (taken q d .most)) (sym (lent-place (F .program) (take n kinds) ls rs ms (c .lent) i)) (fact-of (getD (places (F .program)) i nowhere) (place-at (places (F .program)) (SmallPlace (F .ranges)) (p .places-small) i nowhere (omega (arith, places-long c .2, c .few-is))) d)

@@ -7,6 +7,9 @@ use libc::STDERR_FILENO;
 // No sheet that the programs read or write has more bytes.
 const SHEET: usize = 1048576;
 
+// Room for a word: more than the ten letters of the longest that asks something.
+const WORD: usize = 16;
+
 // Zeros for a sheet. The `ensures` gives only the length, which lending the array as a slice needs.
 pub fn room() -> [u8; SHEET]
     ensures { λ r. ⌜ 1048576 ≡ length r ⌝ }
@@ -45,7 +48,7 @@ fn asked(word: &[u8]) -> u8
 }
 
 fn asked_by_argument() -> u8 {
-    let mut word = [0u8; 16];
+    let mut word = [0u8; WORD];
     let n = os::arg(2, &mut word);
     asked(&word[..n])
 }
@@ -97,8 +100,8 @@ fn read(argument: usize, room: &mut [u8]) -> Taken {
     taken
 }
 
-// Reads the question, and what is asked of it. Of a file longer than the room the start says enough where the room has more than
-// 269 bytes, since no question is longer.
+// Reads the question, and what is asked of it. Of a file longer than the room the start says enough where the room has more bytes
+// than any question (`LONGEST` in the crate limits).
 pub fn start(room: &mut [u8]) -> Started {
     let asked = asked_by_argument();
     if os::arg_count() != 4 {

@@ -6,7 +6,7 @@ use Rattle.page_questions.specs.Accepted.{Accepted}
 use Rattle.page_formulas.specs.Formulas.{formulas, noFormula}
 use Rattle.formula.specs.Formulas.{formulaAt}
 use Rattle.program.specs.Compiled.{Compiled, Fine}
-use Rattle.program.specs.declared.types.Formula as compiled
+use Rattle.program.specs.Held as compiled
 use Rattle.page_formulas.specs.Proper.{Proper}
 use Rattle.page_formulas.proofs.Proper.{formulas-proper}
 use Rattle.page_sheets.proofs.Findings.{all-at}

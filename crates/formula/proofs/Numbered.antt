@@ -23,7 +23,7 @@ use Rattle.page_formulas.proofs.Readings.{insertion-fits, deletion-fits, modifi
 use Rattle.program.specs.Built.{Means}
 use Rattle.sights.specs.Seen.{modesOf}
 use Rattle.program.specs.Compiled.{Compiled, Spans}
-use Rattle.program.specs.declared.types.Formula as compiled
+use Rattle.program.specs.Held as compiled
 use Rattle.formula_lines.specs.Lines.{firstOf, restOf, lineBy, lineFor, Numbered, Tabled}
 use Rattle.formula_deeds.specs.Deeds.{Able, Buildable, noRow, conditionFor, modesFor, Done}
 use Rattle.formula_claims.specs.Claims.{rowsOf, wordsOf}

@@ -17,7 +17,7 @@ use Rattle.page_formulas.specs.Program as P
 use Rattle.page_formulas.specs.Kinds.{kindsOf}
 use Rattle.page_formulas.proofs.Rooms.{AtMost, parts-more, first-room, next-room}
 use Rattle.program.specs.Built.{Long, Room, Builds, Means}
-use Rattle.program.specs.declared.types.Program.{Program}
+use Rattle.program.specs.Held.{Program}
 use Rattle.program.proofs.Emits.{emits-means}
 use Rattle.program.proofs.Weights.{more, said, within, room-less, room-left}
 use Rattle.pieces.proofs.Pieces.{next}

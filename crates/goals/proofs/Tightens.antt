@@ -5,14 +5,14 @@ use mathlib.Core.Bool.{Bool, true, false}
 use mathlib.Core.List.{List}
 use native.Mathlib.Omega.{arith}
 use lib.ListN.{getD}
-use lib.IntN.{ℤ, pos, negsuc, _+ℤ_, negℤ}
+use lib.IntN.{ℤ, pos, _+ℤ_}
 use lib.Signed.{_≤ℤ_, _<ℤ_, leZ, ltZ}
 use mir.Syntax.{w64}
 use mir.Val.{SFits, toZ, ofZ}
 use mir.Facts.{toZ-ofZ}
 use Rattle.page_numbers.specs.Numbers.{minZ}
-use Rattle.page_numbers.proofs.Bridge.{ints, eq-out, +law, neg-up, neg-dn}
-use Rattle.page_numbers.proofs.Machine.{machine, lt-true, lt-false, le-true, le-false, true-le, false-le}
+use Rattle.page_numbers.proofs.Bridge.{ints, eq-out, +law}
+use Rattle.page_numbers.proofs.Machine.{machine, lt-true, lt-false, le-true}
 use Rattle.page_meaning.specs.Limits.{mostVertices}
 use Rattle.page_walks.specs.Grid.{Grid, weight, farN}
 use Rattle.page_walks.specs.Sizes.{tabled, Sized, filled, AllWithin}
@@ -20,7 +20,7 @@ use Rattle.page_walks.specs.Near.{relax, Least}
 use Rattle.page_walks.specs.Walk.{Sat}
 use Rattle.page_walks.proofs.Nears.{relax-less, relax-least, relaxed-old, relaxed-fact, relaxed-both, near-small}
 use Rattle.page_walks.proofs.Rows.{tabled-sized, tabled-at}
-use Rattle.page_formulas.specs.Program.{Values, Place, test}
+use Rattle.page_formulas.specs.Program.{Values, Place}
 use Rattle.page_sheets.specs.Facts.{taken}
 use Rattle.grid.specs.Edges.{Fact}
 use Rattle.goals.specs.Closed.{Tight, Closer, Enters}
@@ -57,18 +57,6 @@ module _ (n : ℕ) (near : Grid) (t : Tight n near) where
     closer-tabled r e h =
         let f = relax (weight near) from to k in
         closer-relaxed r (rw e (tabled-sized f mostVertices n near few table)) (λ u v hu hv. rw e (tabled-at f mostVertices n near few table u v hu hv)) h
-
--- ---- places
-
-module _ (x : Values) (p : Place) where
-  -- a place that is as wanted is a fact, and the other way round
-  pub taken-fact : (d : Bool) → test x p ≡ d → x (taken p d .left) ≤ℤ (x (taken p d .right) +ℤ taken p d .most)
-  taken-fact true e = omega (ints, le-true (x (p .left)) (x (p .right) +ℤ p .most) e)
-  taken-fact false e = omega (ints, le-false (x (p .left)) (x (p .right) +ℤ p .most) e, +law (x (p .right)) (p .most), +law (x (p .left)) (taken p false .most), +law (negℤ (p .most)) (negsuc 0), neg-up (p .most), neg-dn (p .most))
-
-  pub fact-taken : (d : Bool) → x (taken p d .left) ≤ℤ (x (taken p d .right) +ℤ taken p d .most) → test x p ≡ d
-  fact-taken true h = true-le (x (p .left)) (x (p .right) +ℤ p .most) (omega ints)
-  fact-taken false h = false-le (x (p .left)) (x (p .right) +ℤ p .most) (omega (ints, +law (x (p .right)) (p .most), +law (x (p .left)) (taken p false .most), +law (negℤ (p .most)) (negsuc 0), neg-up (p .most), neg-dn (p .most)))
 
 -- what a sum of an entry and a fact's weight fits
 pub sum-fits : (last : ℕ) (near : Grid) → Tight (suc last) near → (from to : ℕ) (k : ℤ) → Fact last from to k → (u : ℕ) → u < suc last → SFits w64 (weight near u from +ℤ k)

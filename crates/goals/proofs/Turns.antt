@@ -16,7 +16,7 @@ use Rattle.page_formulas.specs.Postfix.{says}
 use Rattle.program_tree.specs.Nodes.{kindAt, sizeAt, firstAt, placeIn, Made, Laid, Describes}
 use Rattle.goals.specs.Goals.{Goal, goal, Same, splitting, unlike, total, Waits, Solves, Standing, Leads, Takes}
 use Rattle.program_tree.specs.Nodes.{Tree}
-use Rattle.goals.proofs.Tightens.{taken-fact, fact-taken}
+use Rattle.page_sheets.proofs.Descends.{taken-fact, fact-taken}
 use Rattle.page_formulas.proofs.Cases.{joint-case, constant-case}
 
 -- ---- truths

@@ -28,3 +28,6 @@ pub const PLACES: usize = 12 * COMPARISONS + 6 * COLUMNS;
 
 // How many instructions: those of the same conditions, of the range tests and of the comparison of rows, and what joins the parts.
 pub const INSTRUCTIONS: usize = 6 * (TOKENS + 3 * COMPARISONS) + 13 * COLUMNS + 7;
+
+// How many bytes a question has at most: one table with every column, the longest condition, and an insert of every row.
+pub const LONGEST: usize = 11 + 9 * COLUMNS + TOKENS + 7 * COMPARISONS + 4 * ROWS * COLUMNS;

@@ -1,6 +1,5 @@
 -- A program in postfix order as a tree: an instruction's last operand ends right before it, the one before that where the last starts.
-use Prim.Native.Nat.{ℕ, zero, suc, _+_, _-_, _<_}
-use mathlib.Core.Path.{_≡_}
+use Prim.Native.Nat.{ℕ, zero, suc, _+_, _-_}
 use mathlib.Core.Bool.{Bool, true, false, not, _&&_, _||_}
 use mathlib.Core.List.{List, []}
 use lib.ListN.{getD, take}
@@ -44,8 +43,3 @@ counted (suc k) n = n
 unfoldable pub placesIn : List ℕ → ℕ → ℕ
 placesIn kinds zero = 0
 placesIn kinds (suc n) = counted (getD kinds n 0) (placesIn kinds n)
-
--- the tables of the first n instructions
-pub record Counted (kinds sizes numbers : List ℕ) (n : ℕ) : Type 0 where
-  pub sizes-are : (j : ℕ) → j < n → getD sizes j 0 ≡ sizeOf kinds sizes j
-  pub numbers-are : (j : ℕ) → j < n → getD numbers j 0 ≡ placesIn kinds j

@@ -18,7 +18,7 @@ use Rattle.page_questions.proofs.Holds.{Holds, Finds, holds-so, Between
 use Rattle.page_questions.proofs.Conditions.{every-snoc, Sound, condition-holds}
 use Rattle.page_questions.proofs.Changes.{ChangeFits, change-holds}
 use Rattle.page_questions.proofs.Sums.{total-snoc}
-use Rattle.page_questions.proofs.Layouts.{tables-length, total-split, each-some, every-at, every-take, every-drop, changed-length, columns-from, columns-count, first-from, ascending}
+use Rattle.page_questions.proofs.Layouts.{tables-length, total-split, each-some, every-at, every-take, every-drop, table-length, columns-from, columns-count, first-from, ascending}
 
 -- ---- columns
 
@@ -113,7 +113,7 @@ module _ (s : List ℕ) (kind t tables : ℕ) (ws : List ℕ) (h : Tabled tables
             inside,
           );
           eachFront = each-some (take t ws) gs (every-take (λ w. 1 ≤ w) t ws (h .widths .0)) (omega arith);
-          changed = omega (arith, changed-length ws t cs inside whole, every-at ws t inside (h .widths .0));
+          changed = omega (arith, table-length ws t cs inside whole, every-at ws t inside (h .widths .0));
           eachBack = each-some (drop (suc t) ws) (drop (firstOf ws t + widthOf ws t) gs) (every-drop (λ w. 1 ≤ w) (suc t) ws (h .widths .0)) (simp length-drop (omega arith));
           fewColumns = omega (arith, count, h .widths .1);
           ranges = subst (Every RangeOk) (sym (columns-from ws t cs inside whole c ch)) (every-ranges cs ranges);

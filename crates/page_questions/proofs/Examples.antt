@@ -1,10 +1,11 @@
 -- FORMAT 9.1: the fields of case a, and the three refusals of FORMAT 9.4.
-use Prim.Native.Nat.{ℕ}
+use Prim.Native.Nat.{ℕ, _-_}
 use mathlib.Core.Path.{_≡_, refl}
 use mathlib.Core.List.{List, [], _∷_, _++_}
 use lib.IntN.{pos}
 use lib.ListN.{take, set}
 use Rattle.page_numbers.specs.Bytes.{int32, le32}
+use Rattle.page_meaning.specs.Limits.{mostColumns}
 use Rattle.page_meaning.specs.Condition.{compare, equal, atLeast, both}
 use Rattle.page_meaning.specs.Condition as C
 use Rattle.page_questions.specs.Layout.{total, visibleFrom}
@@ -31,7 +32,7 @@ condition = compare equal 0 (C.column 3 (pos 0)) ∷ compare atLeast 1 (C.consta
 
 pub fields : fieldsOf caseA
     ≡ mark ∷ version ∷ tableCount ∷ changeKind ∷ changedTable 2
-    ∷ columnCount 8 ∷ columnCount 6
+    ∷ columnCount mostColumns ∷ columnCount (mostColumns - 2)
     ∷ lo ∷ hi (pos 0) ∷ visible ∷ lo ∷ hi (pos 0) ∷ visible ∷ lo ∷ hi (pos 0) ∷ visible ∷ lo ∷ hi (pos 0) ∷ visible
     ∷ someVisible (0 ∷ 2 ∷ [])
     ∷ tokenCount

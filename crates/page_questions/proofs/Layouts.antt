@@ -33,6 +33,12 @@ every-at [] t l h = absurd (omega arith)
 every-at (w ∷ ws) zero l h = h .0
 every-at (w ∷ ws) (suc t) l h = every-at ws t (omega arith) (h .1)
 
+-- a table that has columns is there
+pub width-there : (ws : List ℕ) (t : ℕ) → 1 ≤ widthOf ws t → t < length ws
+width-there [] t h = absurd (omega arith)
+width-there (w ∷ ws) zero h = omega arith
+width-there (w ∷ ws) (suc t) h = omega (arith, width-there ws t h)
+
 pub every-take : {A : Type 0} (P : A → Type 0) (t : ℕ) (l : List A) → Every P l → Every P (take t l)
 every-take P zero l h = tt
 every-take P (suc t) [] h = tt
@@ -62,8 +68,8 @@ module _ (ws : List ℕ) (t : ℕ) (cs : List Column) (inside : t < length ws) (
   splits : firstOf ws t + (widthOf ws t + total (drop (suc t) ws)) ≡ length (rangesOf cs)
   splits = omega (arith, total-split ws t inside, length-map cs (λ c. c .range))
 
-  pub changed-length : length (tableOf ws t (rangesOf cs)) ≡ widthOf ws t
-  changed-length = length-take-le (widthOf ws t) (drop (firstOf ws t) (rangesOf cs)) (simp length-drop (omega (arith, splits)))
+  pub table-length : length (tableOf ws t (rangesOf cs)) ≡ widthOf ws t
+  table-length = length-take-le (widthOf ws t) (drop (firstOf ws t) (rangesOf cs)) (simp length-drop (omega (arith, splits)))
 
   module _ (c : Condition) (ch : Change) where
     pub columns-from : columns (questionFrom ws t cs c ch) ≡ rangesOf cs

@@ -67,14 +67,18 @@ module _ (n : ℕ) (F : Formula) where
   calm-table near near′ s passes r r′ h = λ v hv. s 0 v (omega arith) hv
   calm-table near near′ s open? r r′ h = h
 
-  half-table : (near near′ : Weights) (q : Place) (ds : List Bool) (g : Grid) → SameBelow near near′ → Ends q → (r r′ : Growth) → Same (UpTo n) r r′ → Same (UpTo n) (half n F near q ds g r) (half n F near′ q ds g r′)
-  half-table near near′ q ds g s e r r′ h = rw (s (q .left) (q .right) (e .0) (e .1)) (go (strained near′ q) (known (F .program) ds) (search (weight g) n))
+  -- only what lies below a node makes a difference to it
+  pub half-same : (near : Weights) (q : Place) (ds : List Bool) (g : Grid) (r r′ : Growth) → Same (UpTo n) r r′ → Same (UpTo n) (half n F near q ds g r) (half n F near q ds g r′)
+  half-same near q ds g r r′ h = go (strained near q) (known (F .program) ds) (search (weight g) n)
     where
       go : (b : Bool) (k : Three) (o : Option (List ℕ)) → Same (UpTo n) (cond b (strainedNode k o) r) (cond b (strainedNode k o) r′)
       go true fails o = refl
       go true passes o = refl
       go true open? o = refl
       go false k o = h
+
+  half-table : (near near′ : Weights) (q : Place) (ds : List Bool) (g : Grid) → SameBelow near near′ → Ends q → (r r′ : Growth) → Same (UpTo n) r r′ → Same (UpTo n) (half n F near q ds g r) (half n F near′ q ds g r′)
+  half-table near near′ q ds g s e r r′ h = rw (s (q .left) (q .right) (e .0) (e .1)) (half-same near′ q ds g r r′ h)
 
   pub fast-table : (todo : List Place) (ds : List Bool) (g : Grid) (near near′ : Weights) → SameBelow near near′ → Every Ends todo → Same (UpTo n) (fast n F todo ds g near) (fast n F todo ds g near′)
   unfolding fast

@@ -156,7 +156,3 @@ module _ (n : ℕ) (F : Formula) where
         go : (r : Growth) → growTree n F ≡ r → (x : Values) × (growTree n F ≡ openAt x)
         go (openAt x) e = (x, e)
         go (shut u) e = absurd (true≢false (sym t ∙ shut-fails u e ρ h))
-
-    -- no tree passes for an open formula
-    pub open-refused : (x : Values) → growTree n F ≡ openAt x → (at : ℕ) (bs : List ℕ) (o : ℕ) (r : List ℕ) → checkTree (suc n) F at bs ≢ passed o r
-    open-refused x e at bs o r h = let q = open-holds x e in true≢false (sym (q .1) ∙ sound (suc n) F (proper .ranges-small) at bs o r h x (q .0))

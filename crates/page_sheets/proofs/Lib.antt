@@ -21,6 +21,7 @@ pub mod Cycles
 pub mod Bounds
 pub mod Positions
 pub mod Columns
+pub mod Alike
 pub mod Fields
 pub mod Passes
 pub mod Shows

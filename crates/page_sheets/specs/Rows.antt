@@ -1,12 +1,12 @@
 -- The values of a no sheet: those of the first row's columns, then of the second's where the formula has two.
 -- Field j is column j of the first row, or column j − n of the second, n columns in all: the value at vertex 1 + j.
-use Prim.Native.Nat.{ℕ, _+_, _*_, _-_}
+use Prim.Native.Nat.{ℕ, suc, _+_, _*_, _-_, _<_}
 use mathlib.Core.Path.{_≡_}
 use mathlib.Core.Bool.{Bool, true, not, _&&_, _||_, cond}
 use mathlib.Core.Option.{Option, none, some}
 use mathlib.Core.List.{List, [], _∷_, _++_, map}
 use lib.ListN.{length, getD, replicate}
-use lib.Dec.{ltb}
+use lib.Dec.{T, ltb}
 use lib.IntN.{ℤ, pos}
 use mir.Syntax.{w32}
 use mir.Val.{ofZ}
@@ -14,7 +14,8 @@ use Rattle.page_numbers.specs.Bytes.{int32, bytes4}
 use Rattle.page_meaning.specs.Condition.{holds, equal}
 use Rattle.page_meaning.specs.Contents.{Question, Change, insert, delete, modify, Values, columns, first, inRange}
 use Rattle.page_formulas.specs.Program as P
-use Rattle.page_formulas.specs.Formulas.{Formula, among, tabulate, rowOf1, rowOf2, putIn, assign}
+use Rattle.page_formulas.specs.Formulas.{Formula, among, tabulate, secondSight, rowOf1, rowOf2, putIn, assign}
+use Rattle.page_formulas.specs.Vertices.{present}
 
 -- how many columns, and how many fields a formula's rows take
 abbrev pub width : Question → ℕ
@@ -59,6 +60,11 @@ bytesOfRow (z ∷ zs) = bytes4 (ofZ w32 z) ++ bytesOfRow zs
 -- FORMAT 6.3: the formula's number, then the values
 abbrev pub noBytes : Question → ℕ → Formula → P.Values → List ℕ
 noBytes q i F x = i ∷ bytesOfRow (firstRow q i x ++ secondRow q F x)
+
+-- the formula has its rows' vertices
+pub record Rowed (q : Question) (F : Formula) : Type 0 where
+  pub firsts : (c : ℕ) → c < width q → T (present (F .ranges) (suc c))
+  pub seconds : F .pairs ≡ true → (c : ℕ) → c < width q → T (present (F .ranges) (secondSight q c .vertex))
 
 -- ---- read
 

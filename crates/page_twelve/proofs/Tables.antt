@@ -2,24 +2,22 @@
 -- formula has.
 use Prim.Native.Nat.{ℕ, zero, suc, _<_}
 use mathlib.Core.Path.{_≡_, refl, sym, ap, _∙_}
-use mathlib.Core.Bool.{Bool, true, false, cond}
-use mathlib.Core.Option.{Option}
+use mathlib.Core.Bool.{Bool, true, false}
 use mathlib.Core.List.{List, [], _∷_, _++_}
 use native.Mathlib.Omega.{arith}
 use lib.ListN.{getD}
 use lib.IntN.{ℤ}
 use Rattle.page_walks.specs.Grid.{Grid, weight, far}
 use Rattle.page_walks.specs.Near.{Weights}
-use Rattle.page_walks.specs.Search.{search}
 use Rattle.page_formulas.specs.Formulas.{Formula, tabulate}
 use Rattle.page_formulas.specs.Known.{Three, fails, passes, open?, known}
 use Rattle.page_formulas.specs.Program.{Values, Place, places}
 use Rattle.page_formulas.specs.Proper.{Nonempty, SmallPlace}
 use Rattle.page_questions.specs.Accepted.{Every}
 use Rattle.page_sheets.specs.Facts.{start, taken, decide}
-use Rattle.page_sheets.specs.Fast.{after, strained, calmNode, strainedNode, half, fast, sideOf}
+use Rattle.page_sheets.specs.Fast.{after, calmNode, half, fast, sideOf}
 use Rattle.page_sheets.specs.Grow.{join, Growth, shut, openAt, growTree}
-use Rattle.page_sheets.proofs.FastAmong.{SameBelow, Ends, fast-table}
+use Rattle.page_sheets.proofs.FastAmong.{half-same, SameBelow, Ends, fast-table}
 use Rattle.page_sheets.proofs.Fasts.{Here, UpTo, Same, same-trans, join-same, fast-tree}
 use Rattle.page_sheets.proofs.Fit.{Fit, present-below}
 use Rattle.page_twelve.proofs.Spans.{span, span-ranges}
@@ -73,15 +71,6 @@ module _ (n : ℕ) where
     calm-same passes x r r′ h = λ v l. refl
     calm-same open? x r r′ h = h
 
-    half-same : (near : Weights) (q : Place) (ds : List Bool) (g : Grid) (r r′ : Growth) → Same (UpTo n) r r′ → Same (UpTo n) (half n F near q ds g r) (half n F near q ds g r′)
-    half-same near q ds g r r′ h = go (strained near q) (known (F .program) ds) (search (weight g) n)
-      where
-        go : (b : Bool) (k : Three) (o : Option (List ℕ)) → Same (UpTo n) (cond b (strainedNode k o) r) (cond b (strainedNode k o) r′)
-        go true fails o = refl
-        go true passes o = refl
-        go true open? o = refl
-        go false k o = h
-
     fast-tabled : (todo : List Place) (ds : List Bool) (g : Grid) (near : Weights) (t : Grid) → SameBelow n F near (weight t) → Every (Ends n F) todo → Same (UpTo n) (fast n F todo ds g near) (tableFast F todo ds g t)
     unfolding fast tableFast
     fast-tabled [] ds g near t s a = fast-table n F [] ds g near (weight t) s a
@@ -92,8 +81,8 @@ module _ (n : ℕ) where
         (calm-same (known (F .program) ds) (weight t 0) _ _
         (join-same (UpTo n) (sideOf n F p todo ds g (weight t) true) (half n F (weight t) yes (ds ++ true ∷ []) (decide g p true) (tableFast F todo (ds ++ true ∷ []) (decide g p true) (table (after (weight t) yes))))
         (sideOf n F p todo ds g (weight t) false) (half n F (weight t) no (ds ++ false ∷ []) (decide g p false) (tableFast F todo (ds ++ false ∷ []) (decide g p false) (table (after (weight t) no))))
-        (half-same (weight t) yes (ds ++ true ∷ []) (decide g p true) _ _ (fast-tabled todo (ds ++ true ∷ []) (decide g p true) (after (weight t) yes) (table (after (weight t) yes)) (table-same (after (weight t) yes)) (a .1)))
-        (half-same (weight t) no (ds ++ false ∷ []) (decide g p false) _ _ (fast-tabled todo (ds ++ false ∷ []) (decide g p false) (after (weight t) no) (table (after (weight t) no)) (table-same (after (weight t) no)) (a .1)))))
+        (half-same n F (weight t) yes (ds ++ true ∷ []) (decide g p true) _ _ (fast-tabled todo (ds ++ true ∷ []) (decide g p true) (after (weight t) yes) (table (after (weight t) yes)) (table-same (after (weight t) yes)) (a .1)))
+        (half-same n F (weight t) no (ds ++ false ∷ []) (decide g p false) _ _ (fast-tabled todo (ds ++ false ∷ []) (decide g p false) (after (weight t) no) (table (after (weight t) no)) (table-same (after (weight t) no)) (a .1)))))
 
     -- a vertex that the formula has is in the table
     below : Fit (suc n) F → (v : ℕ) → Here (F .ranges) v → UpTo n v

@@ -16,7 +16,7 @@ use Rattle.page_formulas.specs.Compile.{comparison}
 use Rattle.page_formulas.specs.Compile as C
 use Rattle.page_formulas.specs.Formulas.{differsNew, differsOver}
 use Rattle.program.specs.Built.{Room, Builds}
-use Rattle.program.specs.declared.types.Program.{Program}
+use Rattle.program.specs.Held.{Program}
 use Rattle.sights.specs.Seen.{flagsOf, shownFrom, visibleOf, modeIn, sightOf, Has, Usable}
 use Rattle.pieces.specs.Partway.{Partway, differsAt}
 use Rattle.sights.specs.declared.types.Sight.{Sight}

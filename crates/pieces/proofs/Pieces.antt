@@ -8,7 +8,7 @@ use lib.ListN.{length, getD, drop}
 use lib.Seq.{drop-cons}
 use Rattle.page_formulas.specs.Program as P
 use Rattle.program.specs.Built.{Room, Builds}
-use Rattle.program.specs.declared.types.Program.{Program}
+use Rattle.program.specs.Held.{Program}
 use Rattle.program.proofs.Emits.{_then_, emits-none}
 use Rattle.pieces.specs.Partway.{Partway}
 

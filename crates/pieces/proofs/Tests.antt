@@ -16,7 +16,7 @@ use Rattle.page_formulas.specs.Program as P
 use Rattle.page_formulas.specs.Compile as C
 use Rattle.page_formulas.specs.Formulas.{newTerm, bounded, boundedNew, boundedAll}
 use Rattle.program.specs.Built.{Room, Builds}
-use Rattle.program.specs.declared.types.Program.{Program}
+use Rattle.program.specs.Held.{Program}
 use Rattle.sights.specs.Seen.{noColumn, rowOf, modesOf, modeIn, sightOf, Usable, noRange}
 use Rattle.pieces.specs.Partway.{Partway, tableFrom, boundedAt}
 use Rattle.sights.specs.declared.types.Sight.{Sight}

@@ -23,7 +23,7 @@ use Rattle.page_formulas.specs.Costs.{conditionCost}
 use Rattle.program.specs.Built.{Room, Builds}
 use Rattle.sights.specs.Seen.{sightOf, Has}
 use Rattle.pieces.specs.Partway.{Partway, cost, pairs, costs, pairsOf, Ready}
-use Rattle.program.specs.declared.types.Program.{Program}
+use Rattle.program.specs.Held.{Program}
 use Rattle.sights.specs.declared.types.Sight.{Sight}
 use Rattle.pieces.proofs.Pieces.{begin, next, piece-room, piece, finish}
 

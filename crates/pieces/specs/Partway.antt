@@ -16,7 +16,7 @@ use Rattle.question.specs.declared.types.Condition.{Condition}
 use Rattle.page_formulas.specs.Program as P
 use Rattle.program.specs.Built.{Long, Emits}
 use Rattle.sights.specs.Seen.{flagsOf, modesOf, modeIn, rowOf, sightOf}
-use Rattle.program.specs.declared.types.Program.{Program}
+use Rattle.program.specs.Held.{Program}
 use Rattle.sights.specs.declared.types.Sight.{Sight}
 use Rattle.page_formulas.specs.Formulas.{boundedNew, differsNew}
 

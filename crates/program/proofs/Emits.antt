@@ -10,7 +10,7 @@ use lib.Seq.{take-suc-set}
 use Rattle.page_formulas.specs.Program.{place, andI, orI, notI, trueI, falseI, Place}
 use Rattle.page_formulas.specs.Kinds.{kindOf, kindsOf}
 use Rattle.page_formulas.specs.Program as P
-use Rattle.program.specs.declared.types.Program.{Program}
+use Rattle.program.specs.Held.{Program}
 use Rattle.program.specs.declared.types.Joint.{Joint}
 use Rattle.program.specs.declared.types.Joint.the-variants.{And, Or, Not, True, False}
 use Rattle.page_formulas.specs.Costs.{mostInstructions}

@@ -8,7 +8,7 @@ use native.Mathlib.Omega.{arith}
 use lib.Dec.{T}
 use lib.IntN.{ℤ, pos}
 use lib.ListN.{length, getD, take, length-map, List·getD-map}
-use Rattle.page_meaning.specs.Limits.{mostVertices, mostDecisions}
+use Rattle.page_meaning.specs.Limits.{mostVertices}
 use Rattle.page_meaning.specs.Contents.{Range}
 use Rattle.page_questions.specs.Accepted.{Every}
 use Rattle.page_walks.specs.Walk.{Below}
@@ -19,9 +19,10 @@ use Rattle.page_formulas.specs.Vertices.{Ranges, isSome, present}
 use Rattle.page_formulas.specs.Formulas.{Formula}
 use Rattle.page_formulas.specs.Costs.{mostInstructions}
 use Rattle.program.specs.Compiled.{Compiled, Spanned, SmallSpans}
-use Rattle.program.specs.declared.types.Formula as compiled
+use Rattle.program.specs.Held as compiled
 use Rattle.page_formulas.specs.Proper.{SmallPlace, SmallRange, Proper}
-use Rattle.program.specs.Lent.{Shows, Lent, Places, placeAt}
+use Rattle.program.specs.Lent.{Shows, Lent, Coded, Places, placeAt}
+use Rattle.page_formulas.proofs.Trees.{kinds-length}
 use Rattle.page_sheets.proofs.Fit.{present-below}
 
 -- the places that are lent are the program's
@@ -34,6 +35,19 @@ module _ (p : Program) (ks ls rs : List ℕ) (ms : List ℤ) (lent : Lent p ks l
 
   pub lent-place : (i : ℕ) → placeAt ls rs ms i ≡ getD (places p) i nowhere
   lent-place i = let ps = places p in rw (lent .left, lent .right, lent .most, List·getD-map (λ (a : Place). a .left) ps i nowhere, List·getD-map (λ (a : Place). a .right) ps i nowhere, List·getD-map (λ (a : Place). a .most) ps i nowhere)
+
+-- the parts that are lent are as long as is said
+pub kinds-long : {F : Formula} {kinds : List ℕ} {n : ℕ} {left right : List ℕ} {most : List ℤ} {few : ℕ} → Coded F kinds n left right most few → length (take n kinds) ≡ n
+kinds-long {F} c = ap length (c .lent .kinds) ∙ kinds-length (F .program) ∙ sym (c .n-is)
+
+pub places-long : {F : Formula} {kinds : List ℕ} {n : ℕ} {left right : List ℕ} {most : List ℤ} {few : ℕ} → Coded F kinds n left right most few → (length (take few left) ≡ few) × (length (take few right) ≡ few) × (length (take few most) ≡ few)
+places-long {F} c =
+    let ps = places (F .program) in
+    let d = sym (c .few-is) in (
+      ap length (c .lent .left) ∙ length-map ps (λ a. a .left) ∙ d,
+      ap length (c .lent .right) ∙ length-map ps (λ a. a .right) ∙ d,
+      ap length (c .lent .most) ∙ length-map ps (λ a. a .most) ∙ d,
+    )
 
 below-places : (rs : Ranges) (f : Place → ℕ) (ps : List Place) → length rs < mostVertices → Every (λ p. T (present rs (f p))) ps → Below mostVertices (map f ps)
 below-places rs f [] h a = tt
@@ -95,9 +109,6 @@ module _ (f : compiled.Formula) (F : Formula) (is : Compiled f F) where
   module _ (proper : Proper F) where
     pub count-few : f .program .count ≤ mostInstructions
     count-few = omega (arith, is .program .count, proper .short)
-
-    pub places-few : f .program .places ≤ mostDecisions
-    places-few = omega (arith, is .program .places, proper .few-places)
 
     pub places-of : Places ls rs ms
     places-of =

@@ -17,7 +17,7 @@ use Rattle.page_formulas.specs.Vertices.{Ranges}
 use Rattle.page_formulas.specs.Proper.{SmallRange, Nonempty, billion}
 use Rattle.program.specs.Lent.{Coded}
 use Rattle.program.specs.Compiled.{Compiled, Ranging, Ranged}
-use Rattle.program.specs.declared.types.Formula as types
+use Rattle.program.specs.Held as types
 use Rattle.program.proofs.Lends.{flagged, lent-of, spanned-of}
 
 -- ---- ranges by position

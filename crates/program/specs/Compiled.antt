@@ -17,7 +17,7 @@ use Rattle.page_formulas.specs.Proper.{billion, Proper}
 use Rattle.program.specs.Built.{Means}
 use Rattle.program.specs.Lent.{Shows}
 use Rattle.program.specs.declared.types.Vertices.{Vertices}
-use Rattle.program.specs.declared.types.Formula as compiled
+use Rattle.program.specs.Held as compiled
 use Rattle.program.specs.declared.types.Outline.{Outline}
 
 -- vertex numbers up to the last range's; the flags say which are there; a vertex that is there has its range

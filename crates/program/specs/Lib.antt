@@ -1,3 +1,4 @@
+pub mod Held
 pub mod Built
 pub mod Lent
 pub mod Compiled

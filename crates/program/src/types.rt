@@ -1,18 +1,6 @@
-// The declared types: a formula as the product holds it. specs/Built says what the used fields mean.
-use limits::INSTRUCTIONS;
-use limits::PLACES;
+// The declared types: a formula as the product holds it. specs/Held adds the arrays that hold its program, and specs/Built says what
+// they mean.
 use limits::VERTICES;
-
-// The first `count` kinds are the program: 0 place, 1 and, 2 or, 3 not, 4 true, 5 false. The first `places` entries of the other
-// three arrays are its places in order: left − right ≤ most.
-pub struct Program {
-    pub kinds: [u8; INSTRUCTIONS],
-    pub count: usize,
-    pub left: [u8; PLACES],
-    pub right: [u8; PLACES],
-    pub most: [i64; PLACES],
-    pub places: usize,
-}
 
 // Where a program that is being written ends: so many instructions and places so far.
 pub struct End {
@@ -43,14 +31,7 @@ pub struct Vertices {
     pub hi: [i64; VERTICES],
 }
 
-// A compiled formula; `pairs`: it speaks of two rows.
-pub struct Formula {
-    pub program: Program,
-    pub pairs: bool,
-    pub vertices: Vertices,
-}
-
-// The same with its program in arrays that were lent: so many instructions and places.
+// A compiled formula whose program stands in arrays that were lent: so many instructions and places; `pairs`: it speaks of two rows.
 pub struct Outline {
     pub count: usize,
     pub places: usize,

@@ -1,5 +1,5 @@
 -- The tree that the rows of a formula's program make.
-use Prim.Native.Nat.{ℕ, _+_, _-_, _≤_, _<_}
+use Prim.Native.Nat.{ℕ, _-_, _≤_, _<_}
 use mathlib.Core.Path.{_≡_, sym, ap, _∙_, subst}
 use mathlib.Core.Bool.{Bool}
 use mathlib.Core.List.{List}
@@ -16,13 +16,13 @@ use Rattle.page_formulas.specs.Postfix.{says, firstOf, placesIn, valueAt}
 use Rattle.page_formulas.specs.Costs.{mostInstructions}
 use Rattle.page_meaning.specs.Limits.{mostDecisions}
 use Rattle.program.specs.Lent.{placeAt, Coded}
-use Rattle.program.proofs.Lends.{lent-place}
+use Rattle.program.proofs.Lends.{lent-place, kinds-long, places-long}
 use Rattle.page_sheets.specs.Facts.{taken}
 use Rattle.grid.specs.Edges.{Fact}
-use Rattle.facts.proofs.Places.{lengths, place-facts}
-use Rattle.program_tree.specs.Nodes.{cell, column, firstIn, Placed, Plantable, Filled, Tree, treeOf, kindAt, sizeAt, firstAt, placeIn, Made, Tells}
+use Rattle.facts.proofs.Places.{place-facts}
+use Rattle.program_tree.specs.Nodes.{cell, column, Placed, Plantable, Filled, Tree, treeOf, kindAt, sizeAt, firstAt, placeIn, Made, Tells}
 use Rattle.program_tree.specs.declared.types.Extent.{Extent}
-use Rattle.page_formulas.proofs.Trees.{instrAt, kind-at, kinds-length, positive, size-not, size-two, state-at, pushed-one, pushed-two, root-some, root-size, root-truth, tells-value}
+use Rattle.page_formulas.proofs.Trees.{instrAt, kind-at, positive, size-not, size-two, state-at, pushed-one, pushed-two, root-some, root-size, root-truth, tells-value}
 use Rattle.program_tree.proofs.Columns.{column-at, first-in}
 use Rattle.program_tree.proofs.Rows.{places-take, is-place, Numbered, place-number}
 
@@ -34,7 +34,7 @@ module _ (F : Formula) (kinds : List ℕ) (n : ℕ) (left right : List ℕ) (mos
   short = omega (arith, c .n-is, proper .short)
 
   fits : n ≤ length kinds
-  fits = omega (arith, length-take n kinds, ap length (c .lent .kinds), kinds-length p, c .n-is)
+  fits = omega (arith, length-take n kinds, kinds-long c)
 
   formed : Rises 0 (take n kinds) 1
   formed = subst (λ l. Rises 0 l 1) (sym (c .lent .kinds)) (proper .formed)
@@ -62,7 +62,7 @@ module _ (F : Formula) (kinds : List ℕ) (n : ℕ) (left right : List ℕ) (mos
     place-fits : (last : ℕ) → last ≡ length (F .ranges) → Placed last (placeAt left right most (placesIn kinds j))
     place-fits last e = record {
       few = omega (arith, e, proper .vertices);
-      facts = λ d. rw e (subst (λ a. FactOf a d) lent (place-facts F kinds n left right most few c proper (placesIn kinds j) (omega (arith, number (instr .0) (instr .1) .0, lengths F kinds n left right most few c .2)) d));
+      facts = λ d. rw e (subst (λ a. FactOf a d) lent (place-facts F kinds n left right most few c proper (placesIn kinds j) (omega (arith, number (instr .0) (instr .1) .0, places-long c .2)) d));
     }
       where
         FactOf : Place → Bool → Type 0

@@ -2,6 +2,7 @@
 // nothing). Standard input has the examples, as stdin here does: a line is name, report's verdicts, question in hexadecimal.
 use cases::Decoded;
 use libc::STDIN_FILENO;
+use limits::LONGEST;
 use outcome::Judged;
 use printing::line_end;
 use printing::text;
@@ -26,9 +27,9 @@ fn verdicts(bytes: &[u8], n: usize) {
     }
 }
 
-// No question has more than 269 bytes (docs/DECISIONS.md).
+// No question has more bytes than the room.
 fn ours(digits: &[u8]) {
-    let mut room = [0u8; 272];
+    let mut room = [0u8; LONGEST];
     let decoded = cases::decode(digits, &mut room);
     match decoded {
         Decoded::Bytes(n) => verdicts(&room, n),

@@ -7,23 +7,19 @@ ghost use Rattle.page_meaning.specs.Limits.{mostTables, mostColumns, mostTokens
 ghost use Rattle.page_questions.specs.Reader.{bad, ending, fromChange, fromCondition, fromVisible, fromColumns, fromWidths, fromChanged, fromKind, fromTables, fromVersion};
 ghost use Rattle.question.specs.Held.{Reads, ShapeHeld, ChangeHeld, questionOf, widthsOf, columnOf, conditionOf};
 use changes::change::change_at;
+use changes::change::no_change;
 use fields::fields::Byte;
 use fields::fields::byte_at;
 use limits::COLUMNS;
 use limits::PAST_TABLES;
-use limits::ROWS;
 use limits::TABLES;
 use question::types::Answer;
 use question::types::Change;
 use question::types::Column;
 use question::types::Condition;
-use question::types::Mode;
 use question::types::Question;
 use question::types::Reading;
-use question::types::Row;
-use question::types::Setting;
 use question::types::Shape;
-use question::types::Verb;
 use tables::columns::columns_at;
 use tables::columns::some_visible;
 use tables::widths::shape_of;
@@ -52,15 +48,7 @@ pub fn refusal(n: u8, at: usize) -> Reading
                 visible: false,
             }; COLUMNS],
             condition: always(),
-            change: Change {
-                verb: Verb::Insert,
-                rows: [Row {
-                    values: [0i32; COLUMNS],
-                }; ROWS],
-                count: 0,
-                condition: always(),
-                settings: [Setting { mode: Mode::Keep }; COLUMNS],
-            },
+            change: no_change(),
         },
     }
 }

@@ -3,6 +3,7 @@
 // or `good`, and what was changed.
 use cases::Decoded;
 use libc::STDIN_FILENO;
+use limits::LONGEST;
 use printing::line_end;
 use printing::text;
 use printing::words;
@@ -25,9 +26,9 @@ fn answer_start(bytes: &[u8], n: usize) {
     }
 }
 
-// No question has more than 269 bytes (docs/DECISIONS.md), and no string here is longer.
+// No question has more bytes than the room, and no string here is longer.
 fn read(digits: &[u8]) {
-    let mut room = [0u8; 272];
+    let mut room = [0u8; LONGEST];
     let decoded = cases::decode(digits, &mut room);
     match decoded {
         Decoded::Bytes(n) => answer_start(&room, n),

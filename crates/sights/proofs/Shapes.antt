@@ -1,15 +1,16 @@
 -- The question that a declared one means: its columns, its changed table, its visible columns.
 use mathlib.Core.Path.{_≡_, refl, sym, ap, ap₂, _∙_}
 use mathlib.Core.Bool.{Bool, true, false, _||_}
-use mathlib.Core.List.{List, [], _∷_, _++_, map}
-use Prim.Native.Nat.{ℕ, zero, suc, _+_, _≤_, _<_}
+use mathlib.Core.List.{List, [], _∷_, map}
+use Prim.Native.Nat.{ℕ, zero, suc, _+_, _<_}
 use native.Mathlib.Omega.{arith}
 use borrow.Author.Tests.{eq-eqb, ne-eqb}
-use lib.ListN.{length, getD, take, drop, length-map, List·getD-map, length-drop}
-use lib.Seq.{take-add, take-all, drop-drop, getD-take, length-take-le}
+use lib.ListN.{length, getD, take, drop, length-map, List·getD-map}
+use lib.Seq.{getD-take, length-take-le}
 use Rattle.page_meaning.specs.Contents.{Range, columns, columnsOf, first}
-use Rattle.page_questions.specs.Layout.{total, firstOf, widthOf, tablesOf, tableOf, visibleFrom, questionFrom}
+use Rattle.page_questions.specs.Layout.{total, visibleFrom, questionFrom}
 use Rattle.page_questions.specs.Layout as L
+use Rattle.page_questions.proofs.Layouts.{width-there, table-length, columns-from, first-from}
 use Rattle.question.specs.Held.{columnOf, rangesOf, widthsOf, questionOf}
 use Rattle.question.specs.Held as H
 use Rattle.question.specs.declared.types.Question.{Question}
@@ -17,63 +18,36 @@ use Rattle.question.specs.declared.types.Column.{Column}
 use Rattle.page_formulas.specs.Formulas.{among}
 use Rattle.sights.specs.Seen.{noRange, Whole, noColumn}
 
--- ---- tables of given widths, side by side again
-
-side-by-side : (ws : List ℕ) (gs : List Range) → columnsOf (tablesOf ws gs) ≡ take (total ws) gs
-unfolding tablesOf total
-side-by-side [] gs = refl
-side-by-side (w ∷ ws) gs = ap (λ l. take w gs ++ l) (side-by-side ws (drop w gs)) ∙ sym (take-add w (total ws) gs)
-
--- the columns before a table that has some, its own and those after it
-total-split : (ws : List ℕ) (t : ℕ) → 1 ≤ widthOf ws t → total ws ≡ firstOf ws t + (widthOf ws t + total (drop (suc t) ws))
-unfolding total
-total-split [] t h = absurd (omega arith)
-total-split (w ∷ ws) zero h = omega arith
-total-split (w ∷ ws) (suc t) h = omega (arith, total-split ws t h)
-
-three-parts : (a b c : ℕ) (gs : List Range) → a + (b + c) ≡ length gs → take a gs ++ (take b (drop a gs) ++ take c (drop (a + b) gs)) ≡ gs
-three-parts a b c gs e =
-    ap (λ l. take a gs ++ (take b (drop a gs) ++ take c l)) (sym (drop-drop b a gs))
-    ∙ ap (λ l. take a gs ++ l) (sym (take-add b c (drop a gs)))
-    ∙ sym (take-add a (b + c) gs)
-    ∙ take-all (a + (b + c)) gs (omega arith)
+-- ---- its tables
 
 module _ (q : Question) (w : Whole q) where
   pub ranges-length : length (rangesOf q) ≡ q .shape .total
   ranges-length = simp length-map (length-take-le (q .shape .total) (q .columns) (omega (arith, w .long, w .held .shape .fewColumns)))
 
-  splits : L.firstOf (widthsOf (q .shape)) (q .shape .changed) + (L.widthOf (widthsOf (q .shape)) (q .shape .changed) + total (drop (suc (q .shape .changed)) (widthsOf (q .shape)))) ≡ length (rangesOf q)
-  splits = omega (arith, ranges-length, total-split (widthsOf (q .shape)) (q .shape .changed) (omega (arith, w .held .shape .someColumn, w .held .shape .width)), w .held .shape .total)
+  inside : q .shape .changed < length (widthsOf (q .shape))
+  inside = width-there (widthsOf (q .shape)) (q .shape .changed) (omega (arith, w .held .shape .someColumn, w .held .shape .width))
+
+  whole : length (H.columnsOf q) ≡ total (widthsOf (q .shape))
+  whole = omega (arith, length-map (H.columnsOf q) (λ c. c .range), ranges-length, w .held .shape .total)
 
   pub columns-are : columns (questionOf q) ≡ rangesOf q
-  unfolding questionOf questionFrom
-  columns-are =
-      let ws = widthsOf (q .shape) in
-      let t = q .shape .changed in
-      let gs = rangesOf q in
-      ap₂ (λ l r. l ++ (tableOf ws t gs ++ r)) (side-by-side (take t ws) gs) (side-by-side (drop (suc t) ws) (drop (firstOf ws t + widthOf ws t) gs))
-      ∙ three-parts (firstOf ws t) (widthOf ws t) (total (drop (suc t) ws)) gs splits
+  unfolding questionOf
+  columns-are = columns-from (widthsOf (q .shape)) (q .shape .changed) (H.columnsOf q) inside whole _ _
 
   pub columns-length : length (columns (questionOf q)) ≡ q .shape .total
   columns-length = ap length columns-are ∙ ranges-length
 
   pub first-is : first (questionOf q) ≡ q .shape .first
-  unfolding questionOf questionFrom
-  first-is =
-      let ws = widthsOf (q .shape) in
-      let t = q .shape .changed in
-      ap length (side-by-side (take t ws) (rangesOf q))
-      ∙ length-take-le (firstOf ws t) (rangesOf q) (omega (arith, splits))
-      ∙ sym (w .held .shape .first)
+  unfolding questionOf
+  first-is = first-from (widthsOf (q .shape)) (q .shape .changed) (H.columnsOf q) inside whole _ _ ∙ sym (w .held .shape .first)
 
   pub changed-is : questionOf q .changed ≡ take (q .shape .width) (drop (q .shape .first) (rangesOf q))
   unfolding questionOf questionFrom
   changed-is = rw (w .held .shape .width, w .held .shape .first) refl
 
   pub changed-length : length (questionOf q .changed) ≡ q .shape .width
-  changed-length =
-      ap length changed-is
-      ∙ length-take-le (q .shape .width) (drop (q .shape .first) (rangesOf q)) (simp length-drop (omega (arith, ranges-length, w .held .shape .inside)))
+  unfolding questionOf questionFrom
+  changed-length = table-length (widthsOf (q .shape)) (q .shape .changed) (H.columnsOf q) inside whole ∙ sym (w .held .shape .width)
 
 -- ---- the visible columns
 

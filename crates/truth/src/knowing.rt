@@ -46,7 +46,7 @@ fn either(a: Truth, b: Truth) -> Truth
 }
 
 // Not.
-pub fn opposite(a: Truth) -> Truth
+fn opposite(a: Truth) -> Truth
     ensures { λ r. ⌜ threeOf r ≡ not3 (threeOf a) ⌝ }
 {
     match a {
@@ -57,7 +57,7 @@ pub fn opposite(a: Truth) -> Truth
 }
 
 // What an and (1) or an or (2) makes of the two top entries.
-pub fn joined(kind: u8, a: Truth, b: Truth) -> Truth
+fn joined(kind: u8, a: Truth, b: Truth) -> Truth
     ensures { λ r. ⌜ threeOf r ≡ joinedBy kind (threeOf a) (threeOf b) ⌝ }
 {
     if kind == 1 { both(a, b) } else { either(a, b) }

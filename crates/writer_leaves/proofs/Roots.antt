@@ -11,6 +11,7 @@ use Rattle.page_formulas.specs.Formulas.{Formula}
 use Rattle.page_formulas.specs.Program.{Values}
 use Rattle.page_formulas.specs.Proper.{Proper}
 use Rattle.program.specs.Lent.{Coded}
+use Rattle.program.proofs.Lends.{kinds-long}
 use Rattle.page_sheets.specs.Facts.{start}
 use Rattle.page_sheets.specs.Grow.{openAt, growTree}
 use Rattle.page_sheets.specs.Sheet.{lastVertex}
@@ -20,7 +21,7 @@ use Rattle.goals.specs.Closed.{Tight}
 use Rattle.program_tree.specs.Nodes.{Tells, Tree}
 use Rattle.writer_trees.specs.Trees.{Placing, fastAt}
 use Rattle.writer_leaves.specs.Leaves.{Opening, Descendable, Leaf}
-use Rattle.writer_trees.proofs.Plants.{kinds-long, Begun, placing, planted-same}
+use Rattle.writer_trees.proofs.Plants.{Begun, placing, planted-same}
 
 module _ (F : Formula) (kinds : List ℕ) (n : ℕ) (left right : List ℕ) (most : List ℤ) (few : ℕ) (c : Coded F kinds n left right most few) (p : Proper F) (t : Tree) (tells : Tells t (F .program)) (last-is : t .last ≡ length (F .ranges)) (near : Grid) (s : Begun F near) where
   abbrev facts : Grid
@@ -43,7 +44,7 @@ module _ (F : Formula) (kinds : List ℕ) (n : ℕ) (left right : List ℕ) (mos
 
     pub root-descendable : Descendable (take n kinds) (take few left) (take few right) (take few most) t near
     root-descendable = record {
-      short = omega (arith, kinds-long F kinds n left right most few c, c .n-is, p .short);
+      short = omega (arith, kinds-long c, c .n-is, p .short);
       places = subst (λ m. Placing m (take few left) (take few right) (take few most)) (sym last-is) (placing F kinds n left right most few c p);
       table = s .table;
       tight = subst (λ m. Tight (suc m) near) (sym last-is) (s .tight);

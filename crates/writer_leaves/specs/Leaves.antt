@@ -17,7 +17,7 @@ use Rattle.page_formulas.specs.Costs.{mostInstructions}
 use Rattle.page_formulas.specs.Proper.{Proper}
 use Rattle.program.specs.Lent.{Lent}
 use Rattle.program.specs.Compiled.{Compiled}
-use Rattle.program.specs.declared.types.Formula as compiled
+use Rattle.program.specs.Held as compiled
 use Rattle.page_sheets.specs.Grow.{openAt, growTree}
 use Rattle.page_sheets.specs.Sheet.{lastVertex}
 use Rattle.goals.specs.Closed.{Tight}

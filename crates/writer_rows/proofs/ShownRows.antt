@@ -19,11 +19,12 @@ use Rattle.page_formulas.specs.Formulas.{Formula, among, secondSight, rowOf1, r
 use Rattle.page_formulas.specs.Program as P
 use Rattle.sights.specs.Seen.{rowSight}
 use Rattle.sights.proofs.Shapes.{columns-length}
-use Rattle.page_sheets.specs.Rows.{width, putRow, firstRow, secondRow, bytesOfRow, fixed, Wide, orElse}
+use Rattle.page_sheets.specs.Rows.{width, putRow, firstRow, secondRow, bytesOfRow, fixed, Rowed, Wide, orElse}
+use Rattle.page_sheets.proofs.Alike.{rows-alike}
 use Rattle.page_sheets.proofs.Columns.{first-value, second-value}
-use Rattle.page_sheets.proofs.Values.{tabulate-length, tabulate-same}
+use Rattle.page_sheets.proofs.Values.{tabulate-length}
 use Rattle.room.specs.Room.{Filling, puts}
-use Rattle.writer_rows.specs.Rows.{rowFor, rowsFor, Showable, Rowed, Alike}
+use Rattle.writer_rows.specs.Rows.{rowFor, rowsFor, Showable, Alike}
 use Rattle.room.proofs.Puts.{puts-append}
 
 -- ---- a row's columns
@@ -99,14 +100,5 @@ module _ (f : Filling) (q : Question) (i : ℕ) (x : P.Values) (pairs : Bool) wh
 
 -- ---- rows of values that agree
 
-pub rows-alike : (q : Question) (i : ℕ) (F : Formula) (values : Values) (x : P.Values) (pairs : Bool) → F .pairs ≡ pairs → Rowed q F → Alike (F .ranges) values x → rowsFor q i pairs (look values) ≡ firstRow q i x ++ secondRow q F x
-rows-alike q i F values x pairs e w a = rw (← e) (go (F .pairs) refl)
-  where
-    firsts : rowOf1 q (look values) ≡ rowOf1 q x
-    firsts = tabulate-same (width q) (λ j. look values (suc j)) (λ j. x (suc j)) (λ j h. a (suc j) (w .firsts j h))
-
-    go : (b : Bool) → F .pairs ≡ b → rowsFor q i b (look values) ≡ firstRow q i x ++ cond b (rowOf2 q x) []
-    go false d = ap (λ u. putRow q (q .change) i u ++ []) firsts
-    go true d =
-        ap₂ (λ u v. putRow q (q .change) i u ++ v) firsts
-        (tabulate-same (width q) (λ j. look values (secondSight q j .vertex)) (λ j. x (secondSight q j .vertex)) (λ j h. a (secondSight q j .vertex) (w .seconds d j h)))
+pub rows-shown : (q : Question) (i : ℕ) (F : Formula) (values : Values) (x : P.Values) (pairs : Bool) → F .pairs ≡ pairs → Rowed q F → Alike (F .ranges) values x → rowsFor q i pairs (look values) ≡ firstRow q i x ++ secondRow q F x
+rows-shown q i F values x pairs e w a = let s = rows-alike q F w (look values) x a in rw (← e) (ap₂ (λ u v. putRow q (q .change) i u ++ v) (s .0) (s .1))

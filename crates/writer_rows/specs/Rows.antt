@@ -1,7 +1,7 @@
 -- The rows that a no sheet shows, as the writer's code holds them: what it must be given.
-use Prim.Native.Nat.{ℕ, suc, _<_}
+use Prim.Native.Nat.{ℕ}
 use mathlib.Core.Path.{_≡_}
-use mathlib.Core.Bool.{Bool, true, cond}
+use mathlib.Core.Bool.{Bool, cond}
 use mathlib.Core.List.{[], _++_}
 use lib.Dec.{T}
 use Rattle.page_meaning.specs.Contents.{Values, look}
@@ -9,10 +9,10 @@ use Rattle.page_meaning.specs.Contents as M
 use Rattle.question.specs.Held.{questionOf}
 use Rattle.question.specs.declared.types.Question.{Question}
 use Rattle.page_formulas.specs.Program as P
-use Rattle.page_formulas.specs.Formulas.{Formula, secondSight, rowOf2}
+use Rattle.page_formulas.specs.Formulas.{rowOf2}
 use Rattle.page_formulas.specs.Vertices.{Ranges, present}
 use Rattle.sights.specs.Seen.{Whole}
-use Rattle.page_sheets.specs.Rows.{width, firstRow, Wide}
+use Rattle.page_sheets.specs.Rows.{firstRow, Wide}
 
 -- the first or the second row
 abbrev pub rowFor : M.Question → ℕ → Bool → P.Values → Values
@@ -26,11 +26,6 @@ rowsFor q i pairs x = firstRow q i x ++ cond pairs (rowOf2 q x) []
 pub record Showable (q : Question) (i : ℕ) : Type 0 where
   pub whole : Whole q
   pub wide : Wide (questionOf q) (questionOf q .change) i
-
--- the formula has its rows' vertices
-pub record Rowed (q : M.Question) (F : Formula) : Type 0 where
-  pub firsts : (c : ℕ) → c < width q → T (present (F .ranges) (suc c))
-  pub seconds : F .pairs ≡ true → (c : ℕ) → c < width q → T (present (F .ranges) (secondSight q c .vertex))
 
 -- the code's values are those at the formula's vertices
 abbrev pub Alike : Ranges → Values → P.Values → Type 0

@@ -17,9 +17,9 @@ ghost use Rattle.question.specs.Held.{questionOf};
 ghost use Rattle.page_formulas.specs.Formulas.{Formula};
 ghost use Rattle.page_formulas.specs.Program.{Values};
 ghost use Rattle.sights.specs.Seen.{Whole};
-ghost use Rattle.page_sheets.specs.Rows.{fixed, orElse, bytesOfRow, noBytes};
+ghost use Rattle.page_sheets.specs.Rows.{fixed, orElse, bytesOfRow, noBytes, Rowed};
 ghost use Rattle.room.specs.Room.{filling, puts};
-ghost use Rattle.writer_rows.specs.Rows.{rowFor, rowsFor, Showable, Rowed, Alike};
+ghost use Rattle.writer_rows.specs.Rows.{rowFor, rowsFor, Showable, Alike};
 
 // The 32 bits of a value.
 fn low_bits(z: i64) -> u64

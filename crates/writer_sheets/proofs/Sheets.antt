@@ -16,11 +16,11 @@ use Rattle.page_formulas.specs.Program.{Values}
 use Rattle.page_formulas.specs.Proper.{Proper}
 use Rattle.page_formulas.specs.Vertices.{present}
 use Rattle.program.specs.Compiled.{Compiled}
-use Rattle.program.specs.declared.types.Formula as compiled
+use Rattle.program.specs.Held as compiled
 use Rattle.formula.specs.Formulas.{formulaAt}
 use Rattle.formula.proofs.Fines.{proper-at}
 use Rattle.page_sheets.specs.Grow.{openAt, growTree}
-use Rattle.page_sheets.specs.Rows.{noBytes}
+use Rattle.page_sheets.specs.Rows.{noBytes, Rowed}
 use Rattle.page_sheets.specs.Sheet.{lastVertex, header, sayYes, sayNo, sheetFor, findingOf, sheetOf}
 use Rattle.page_sheets.specs.Tree.{Tree}
 use Rattle.page_sheets.specs.Trees.{allShut, bytesAll}
@@ -28,8 +28,8 @@ use Rattle.page_sheets.proofs.Positions.{open-there}
 use Rattle.room.specs.Room.{filling, puts}
 use Rattle.room.specs.declared.Spot.{Spot}
 use Rattle.room.proofs.Puts.{puts-append}
-use Rattle.writer_rows.specs.Rows.{Rowed, Alike}
-use Rattle.writer_rows.proofs.ShownFormulas.{rows-there}
+use Rattle.writer_rows.specs.Rows.{Alike}
+use Rattle.page_sheets.proofs.Alike.{rows-there}
 use Rattle.writer_leaves.specs.Leaves.{FineOpen, Leaf}
 use Rattle.writer_sheets.specs.Starts.{atStart, AllShut, OpenFirst}
 

@@ -31,7 +31,8 @@ use Rattle.program.specs.Lent.{Coded}
 use Rattle.program.specs.Compiled.{Ranging}
 use Rattle.room.specs.declared.Spot.{Spot}
 use Rattle.writer_trees.proofs.Growths.{grows-same}
-use Rattle.facts.proofs.Places.{lengths, place-facts}
+use Rattle.facts.proofs.Places.{place-facts}
+use Rattle.program.proofs.Lends.{places-long}
 use Rattle.program.proofs.Ranges.{ranged}
 
 -- the kinds that are lent are as many as said
@@ -63,7 +64,7 @@ module _ (F : Formula) (kinds : List ℕ) (n : ℕ) (left right : List ℕ) (mos
 
   module _ (p : Proper F) where
     long : (length ls ≡ few) × (length rs ≡ few) × (length ms ≡ few)
-    long = lengths F kinds n left right most few c
+    long = places-long c
 
     pub placing : Placing (length (F .ranges)) ls rs ms
     placing = record { few = p .vertices; as-long = (omega (arith, long .0, long .2), omega (arith, long .1, long .2), omega (arith, long .2, c .few-is, p .few-places)); facts = place-facts F kinds n left right most few c p }

@@ -1,29 +1,17 @@
-use mathlib.Core.Path.{sym, ap, _∙_}
+use mathlib.Core.Path.{ap, _∙_}
 use borrow.Author.Needs.{needs}
-use Rattle.outcome.specs.Told.{judgedOf}
-use Rattle.capi.specs.Returned.{leaves, answer}
+use Rattle.capi.specs.Returned.{answer}
 use Rattle.capi.proofs.vu_check.Statement.{statement}
 use Rattle.capi.proofs.vu_check.Tie as tie
 
 check-requires : tie.Need-check-requires
 check-requires c κs = search needs
 
-enum-known-told : tie.Need-enum-known-told
-enum-known-told c = search needs
-
-byte-of-requires : tie.Need-byte-of-requires
-byte-of-requires c κs = search needs
-
-enum-known-told-2 : tie.Need-enum-known-told-2
-enum-known-told-2 c = search needs
+leave-requires : tie.Need-leave-requires
+leave-requires c κs = search needs
 
 returns : tie.Need-returns
-returns c = ap (λ b. leaves 0 b 0) (c .byte-of .ensures) ∙ ap (λ t. answer (judgedOf t)) (sym (c .before .before .told .given .1)) ∙ ap answer (c .before .before .before .before .check .ensures)
-
-returns-2 : tie.Need-returns-2
-returns-2 c = ap (λ t. answer (judgedOf t)) (sym (c .before .told2 .given .1)) ∙ ap answer (c .before .before .before .check .ensures)
+returns c = c .leave .ensures ∙ ap answer (c .before .before .before .check .ensures)
 
 pub vu-check-spec : {M : Type 1} → statement M
-vu-check-spec =
-    tie.close
-    (tie.spec check-requires enum-known-told byte-of-requires enum-known-told-2 returns returns-2)
+vu-check-spec = tie.close (tie.spec check-requires leave-requires returns)

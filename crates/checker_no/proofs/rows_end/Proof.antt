@@ -1,4 +1,4 @@
-use mathlib.Core.Path.{ap₂, _∙_}
+use mathlib.Core.Path.{ap, ap₂, _∙_}
 use mathlib.Core.Bool.{cond}
 use lib.Dec.{leb}
 use lib.ListN.{length}
@@ -11,11 +11,8 @@ use Rattle.checker_no.proofs.rows_end.Tie as tie
 formula-met-requires : tie.Need-formula-met-requires
 formula-met-requires c κs = search needs
 
-mul-ended : tie.Need-mul-ended
-mul-ended c = search needs
-
-add-ended : tie.Need-add-ended
-add-ended c = search needs
+field-at-requires : tie.Need-field-at-requires
+field-at-requires c κs = search needs
 
 ending-requires : tie.Need-ending-requires
 ending-requires c κs = search needs
@@ -23,9 +20,9 @@ ending-requires c κs = search needs
 returns : tie.Need-returns
 unfolding noEnd
 returns c = λ F q is e.
-    let s = c .before .before .before .before .before .before .args .sheet .now in
-    c .ending .ensures ∙ ap₂ (λ b n. cond b (cond (leb (length s) (fieldAt n)) (says sayNo) (refusal 16 0)) (refusal 15 7)) (c .before .formula-met .ensures F q is e) e
+    let s = c .before .before .before .before .before .before .before .args .sheet .now in
+    c .ending .ensures ∙ ap₂ (λ b n. cond b (cond (leb (length s) n) (says sayNo) (refusal 16 0)) (refusal 15 7)) (c .before .before .formula-met .ensures F q is e) (c .before .field-at .ensures ∙ ap fieldAt e)
 
 pub rows-end-spec : {M : Type 1} → statement M
 rows-end-spec =
-    tie.close (tie.spec formula-met-requires mul-ended add-ended ending-requires returns)
+    tie.close (tie.spec formula-met-requires field-at-requires ending-requires returns)

@@ -1,24 +1,14 @@
-use mathlib.Core.Path.{_≡_, refl, sym, ap, _∙_}
+use mathlib.Core.Path.{_≡_, sym, ap, _∙_}
 use mathlib.Core.Bool.{true, false}
-use Prim.Native.Nat.{_-_}
 use native.Mathlib.Omega.{arith}
-use lib.IntN.{ℤ, pos, negsuc, _-ℤ_}
+use lib.IntN.{pos, negsuc, _-ℤ_}
 use lib.Signed.{ltZ, mag}
 use mir.Syntax.{w32}
 use mir.Val.{toZ, ofZ}
 use mir.Facts.{toZ-ofZ}
-use Rattle.page_numbers.proofs.Machine.{machine, diff}
+use Rattle.ints.proofs.Bits.{bits-below, bits-above}
 use Rattle.ints.proofs.to_bits.Statement.{statement}
 use Rattle.ints.proofs.to_bits.Tie as tie
-
--- a number below 0, and what the code makes of it
-below : (z : ℤ) → ltZ z (pos 0) ≡ true → (negsuc 0 -ℤ z ≡ pos (mag z)) × (ofZ w32 z ≡ 4294967295 - mag z)
-below (pos n) e = absurd (omega (arith, machine))
-below (negsuc n) e = (omega (arith, machine, diff (negsuc 0) (negsuc n)), omega arith)
-
-above : (z : ℤ) → ltZ z (pos 0) ≡ false → z ≡ pos (mag z)
-above (pos n) e = refl
-above (negsuc n) e = absurd (omega (arith, machine))
 
 taken : (c : tie.Then1) → ltZ (c .before .args .z) (pos 0) ≡ true
 taken c = simp (toZ-ofZ, c .before .fits .z) at (c .if1 .taken)
@@ -27,10 +17,10 @@ left : (c : tie.Else1) → ltZ (c .before .args .z) (pos 0) ≡ false
 left c = simp (toZ-ofZ, c .before .fits .z) at (c .if1 .left)
 
 part : (c : tie.Then1) → negsuc 0 -ℤ toZ w32 (ofZ w32 (c .before .args .z)) ≡ pos (mag (c .before .args .z))
-part c = simp (toZ-ofZ, c .before .fits .z) (below (c .before .args .z) (taken c) .0)
+part c = simp (toZ-ofZ, c .before .fits .z) (bits-below (c .before .args .z) (taken c) .0)
 
 kept : (c : tie.Else1) → toZ w32 (ofZ w32 (c .before .args .z)) ≡ pos (mag (c .before .args .z))
-kept c = toZ-ofZ (c .before .fits .z) ∙ above (c .before .args .z) (left c)
+kept c = toZ-ofZ (c .before .fits .z) ∙ bits-above (c .before .args .z) (left c)
 
 sub-result : tie.Need-sub-result
 sub-result c = rw (part c) (record { sfits = c .before .fits .z .sfits })
@@ -49,10 +39,10 @@ cast-result-2 : tie.Need-cast-result-2
 cast-result-2 c = rw (kept c) (tt, omega arith)
 
 returns : tie.Need-returns
-returns c = rw (made c) (sym (below (c .before .args .z) (taken c) .1))
+returns c = rw (made c) (sym (bits-below (c .before .args .z) (taken c) .1))
 
 returns-2 : tie.Need-returns-2
-returns-2 c = rw (kept c) (sym (ap (ofZ w32) (above (c .before .args .z) (left c))))
+returns-2 c = rw (kept c) (sym (ap (ofZ w32) (bits-above (c .before .args .z) (left c))))
 
 pub to-bits-spec : {M : Type 1} → statement M
 to-bits-spec =

@@ -6,15 +6,15 @@ use lib.ListN.{length}
 use Rattle.page_formulas.specs.Formulas.{Formula}
 use Rattle.page_formulas.specs.Proper.{Proper}
 use Rattle.program.specs.Lent.{Coded}
-use Rattle.program.specs.declared.types.Formula as compiled
+use Rattle.program.specs.Held as compiled
 use Rattle.program.specs.Compiled.{Compiled, formulaOf}
+use Rattle.program.proofs.Lends.{kinds-long, places-long}
 use Rattle.program.proofs.Ranges.{coded-of, ranging-of, ranged}
-use Rattle.facts.proofs.Places.{lengths}
 use Rattle.page_meaning.specs.Limits.{mostVertices}
 use Rattle.page_walks.proofs.Rows.{sized}
 use Rattle.program_tree.specs.Nodes.{treeOf, Tells}
 use Rattle.program_tree.proofs.Trees.{plantable, tells}
-use Rattle.writer_trees.proofs.Plants.{Begun, begun-of, kinds-long}
+use Rattle.writer_trees.proofs.Plants.{Begun, begun-of}
 use Rattle.writer_leaves.proofs.Roots.{root-opening, root-values, root-descendable, root-leaf}
 use borrow.Author.Needs.{needs}
 use Rattle.writer_leaves.proofs.first_leaf.Statement.{statement}
@@ -43,16 +43,16 @@ sub-t24 : tie.Need-sub-t24
 sub-t24 c = search needs
 
 slice-aggregate-descend : tie.Need-slice-aggregate-descend
-slice-aggregate-descend c = sym (kinds-long _ _ _ _ _ _ _ (coded (c .before .before .before .before .before .before .before .before .before .before .before .before .before .before)))
+slice-aggregate-descend c = sym (kinds-long (coded (c .before .before .before .before .before .before .before .before .before .before .before .before .before .before)))
 
 slice-aggregate-descend-2 : tie.Need-slice-aggregate-descend-2
-slice-aggregate-descend-2 c = sym (lengths _ _ _ _ _ _ _ (coded (c .before .before .before .before .before .before .before .before .before .before .before .before .before .before .before)) .0)
+slice-aggregate-descend-2 c = sym (places-long (coded (c .before .before .before .before .before .before .before .before .before .before .before .before .before .before .before)) .0)
 
 slice-aggregate-descend-3 : tie.Need-slice-aggregate-descend-3
-slice-aggregate-descend-3 c = sym (lengths _ _ _ _ _ _ _ (coded (c .before .before .before .before .before .before .before .before .before .before .before .before .before .before .before .before)) .1)
+slice-aggregate-descend-3 c = sym (places-long (coded (c .before .before .before .before .before .before .before .before .before .before .before .before .before .before .before .before)) .1)
 
 slice-aggregate-descend-4 : tie.Need-slice-aggregate-descend-4
-slice-aggregate-descend-4 c = sym (lengths _ _ _ _ _ _ _ (coded (c .before .before .before .before .before .before .before .before .before .before .before .before .before .before .before .before .before)) .2)
+slice-aggregate-descend-4 c = sym (places-long (coded (c .before .before .before .before .before .before .before .before .before .before .before .before .before .before .before .before .before)) .2)
 
 -- the closure is that of the ranges
 near-is : (c : tie.After-begin) → let f = given (c .before .before .before .before .before) in (F : Formula) → Compiled f F → Proper F → Begun F (c .begin .result)

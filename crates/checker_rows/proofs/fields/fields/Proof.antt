@@ -1,11 +1,11 @@
-use Prim.Native.Nat.{_-_, _≤_}
+use Prim.Native.Nat.{_+_, _-_, _≤_}
 use mathlib.Core.Path.{_≡_, sym, ap, _∙_}
 use native.Mathlib.Omega.{arith}
 use borrow.Author.Needs.{needs}
 use lib.ListN.{length}
 use Rattle.question.specs.Held.{questionOf}
 use Rattle.page_sheets.specs.Rows.{fieldAt, fieldOk}
-use Rattle.page_sheets.specs.Sheet.{Answer, checkFields}
+use Rattle.page_sheets.specs.Sheet.{Answer, refusal, checkFields}
 use Rattle.page_sheets.proofs.FieldRun.{fields-end, fields-short, fields-bad, fields-on}
 use Rattle.checker_rows.proofs.fields.fields.Statement.{statement}
 use Rattle.checker_rows.proofs.fields.fields.Tie as tie
@@ -23,24 +23,24 @@ loop-holds c =
     let e : a .count - 0 ≡ a .count = omega arith in
     (search needs, c .before .pre .2, λ next. ap (λ n. checkFields (fieldOk (questionOf (a .q)) (a .i) (a .sheet .now)) (a .sheet .now) n 0 next) e)
 
-mul-at : tie.Need-mul-at Inv-loop μ-loop
-mul-at c = omega (arith, c .loop-test .taken, c .before .before .before .pre .1, c .before .before .before .pre .0 .held .shape .fewColumns)
-
-add-at : tie.Need-add-at Inv-loop μ-loop
-add-at c = omega (arith, c .loop-test .taken, c .before .before .before .pre .1, c .before .before .before .pre .0 .held .shape .fewColumns)
+field-at-requires : tie.Need-field-at-requires Inv-loop μ-loop
+field-at-requires c κs = omega (arith, c .loop-test .taken, c .before .before .before .pre .1, c .before .before .before .pre .0 .held .shape .fewColumns)
 
 add-if1 : tie.Need-add-if1 Inv-loop μ-loop
-add-if1 c = omega (arith, c .loop-test .taken, c .before .before .before .pre .1, c .before .before .before .pre .0 .held .shape .fewColumns)
+add-if1 c = omega (arith, c .field-at .ensures, c .before .loop-test .taken, c .before .before .before .before .pre .1, c .before .before .before .before .pre .0 .held .shape .fewColumns)
 
 returns : tie.Need-returns Inv-loop μ-loop
 returns c =
-    let l = c .before .before .loop in
-    let a = c .before .before .before .before .args in
+    let l = c .before .before .before .loop in
+    let a = c .before .before .before .before .before .args in
     let s = a .sheet .now in
-    record { meaning = λ next. sym (fields-short (fieldOk (questionOf (a .q)) (a .i) s) s (a .count) (l .j) next (c .before .loop-test .taken) (c .if1 .taken)) ∙ l .inv .2 next; inside = tt }
+    let e = c .before .field-at .ensures in
+    record { meaning = λ next. ap (λ p. refusal 11 p) e ∙ sym (fields-short (fieldOk (questionOf (a .q)) (a .i) s) s (a .count) (l .j) next (c .before .before .loop-test .taken) (omega (arith, e, c .if1 .taken))) ∙ l .inv .2 next; inside = tt }
 
 field-allows-requires : tie.Need-field-allows-requires Inv-loop μ-loop
-field-allows-requires c κs = (c .before .before .before .before .pre .0, omega (arith, c .before .loop-test .taken, c .before .before .before .before .pre .1), c .if1 .left)
+field-allows-requires c κs =
+    let s = c .before .before .before .before .before in
+    (s .pre .0, omega (arith, c .before .before .loop-test .taken, s .pre .1), omega (arith, c .before .field-at .ensures, c .if1 .left))
 
 add-j : tie.Need-add-j Inv-loop μ-loop
 add-j c = search needs
@@ -50,20 +50,24 @@ loop-less c = search needs
 
 loop-again : tie.Need-loop-again Inv-loop μ-loop
 loop-again c =
-    let l = c .before .before .before .before .loop in
-    let a = c .before .before .before .before .before .before .args in
-    let s = a .sheet .now in (
+    let f = c .before .before .before in
+    let l = f .before .before .loop in
+    let a = f .before .before .before .before .args in
+    let s = a .sheet .now in
+    let fits : fieldAt (l .j) + 4 ≤ length s = omega (arith, f .field-at .ensures, c .before .before .if1 .left) in (
       search needs,
-      omega (arith, c .before .before .if1 .left),
-      λ next. sym (fields-on (fieldOk (questionOf (a .q)) (a .i) s) s (a .count) (l .j) next (c .before .before .before .loop-test .taken) (c .before .before .if1 .left) (sym (c .before .field-allows .ensures) ∙ c .if2 .taken)) ∙ l .inv .2 next,
+      omega (arith, fits),
+      λ next. sym (fields-on (fieldOk (questionOf (a .q)) (a .i) s) s (a .count) (l .j) next (f .before .loop-test .taken) fits (sym (c .before .field-allows .ensures) ∙ c .if2 .taken)) ∙ l .inv .2 next,
     )
 
 returns-2 : tie.Need-returns-2 Inv-loop μ-loop
 returns-2 c =
-    let l = c .before .before .before .before .loop in
-    let a = c .before .before .before .before .before .before .args in
+    let f = c .before .before .before in
+    let l = f .before .before .loop in
+    let a = f .before .before .before .before .args in
     let s = a .sheet .now in
-    record { meaning = λ next. sym (fields-bad (fieldOk (questionOf (a .q)) (a .i) s) s (a .count) (l .j) next (c .before .before .before .loop-test .taken) (c .before .before .if1 .left) (sym (c .before .field-allows .ensures) ∙ c .if2 .left)) ∙ l .inv .2 next; inside = tt }
+    let e = f .field-at .ensures in
+    record { meaning = λ next. ap (λ p. refusal 15 p) e ∙ sym (fields-bad (fieldOk (questionOf (a .q)) (a .i) s) s (a .count) (l .j) next (f .before .loop-test .taken) (omega (arith, e, c .before .before .if1 .left)) (sym (c .before .field-allows .ensures) ∙ c .if2 .left)) ∙ l .inv .2 next; inside = tt }
 
 returns-3 : tie.Need-returns-3 Inv-loop μ-loop
 returns-3 c =
@@ -79,8 +83,7 @@ fields-spec =
     Inv-loop
     μ-loop
     loop-holds
-    mul-at
-    add-at
+    field-at-requires
     add-if1
     returns
     field-allows-requires

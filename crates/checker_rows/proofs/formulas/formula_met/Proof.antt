@@ -1,12 +1,12 @@
 use mathlib.Core.Path.{_≡_, sym, ap, _∙_}
 use native.Mathlib.Omega.{arith}
 use lib.ListN.{length, take}
-use Rattle.page_formulas.proofs.Trees.{kinds-length}
 use Rattle.page_sheets.specs.Rows.{readValues}
 use Rattle.program.specs.Compiled.{formulaOf}
 use Rattle.program.specs.Lent.{Places}
-use Rattle.program.specs.declared.types.Formula.{Formula}
-use Rattle.program.proofs.Lends.{lent-of, lent-length, count-few, places-of}
+use Rattle.program.specs.Held.{Formula}
+use Rattle.program.proofs.Lends.{kinds-long, places-long, lent-of, count-few, places-of}
+use Rattle.program.proofs.Ranges.{coded-of}
 use Rattle.checker_rows.specs.NoSheet.{seen}
 use Rattle.checker_rows.proofs.Valued.{seen-read}
 use borrow.Author.Needs.{needs}
@@ -22,10 +22,10 @@ placed s = let i = s .pre .0 in places-of (lent s) (i .formula) (i .is) (i .prop
 
 -- its used parts are as long as it says
 instructions : (s : tie.Start) → length (take (s .args .o .count) (s .args .kinds .now)) ≡ s .args .o .count
-instructions s = let i = s .pre .0 in ap length (i .is .program .kinds) ∙ kinds-length (i .formula .program) ∙ sym (i .is .program .count)
+instructions s = let i = s .pre .0 in kinds-long (coded-of (lent s) (i .formula) (i .is))
 
-used : (s : tie.Start) → length (take (s .args .o .places) (s .args .left .now)) ≡ s .args .o .places
-used s = let i = s .pre .0 in lent-length (i .formula .program) _ _ _ _ (lent-of (lent s) (i .formula) (i .is)) ∙ sym (i .is .program .places)
+used : (s : tie.Start) → let a = s .args in let n = a .o .places in (length (take n (a .left .now)) ≡ n) × (length (take n (a .right .now)) ≡ n) × (length (take n (a .most .now)) ≡ n)
+used s = let i = s .pre .0 in places-long (coded-of (lent s) (i .formula) (i .is))
 
 values-requires : tie.Need-values-requires
 values-requires c κs = search needs
@@ -34,13 +34,13 @@ slice-aggregate-used : tie.Need-slice-aggregate-used
 slice-aggregate-used c = sym (instructions (c .before .before .before .before .before .before))
 
 slice-aggregate-a : tie.Need-slice-aggregate-a
-slice-aggregate-a c = sym (used (c .before .before .before .before .before .before .before))
+slice-aggregate-a c = sym (used (c .before .before .before .before .before .before .before) .0)
 
 slice-aggregate-b : tie.Need-slice-aggregate-b
-slice-aggregate-b c = let s = c .before .before .before .before .before .before .before .before in sym (placed s .rights ∙ used s)
+slice-aggregate-b c = sym (used (c .before .before .before .before .before .before .before .before) .1)
 
 slice-aggregate-k : tie.Need-slice-aggregate-k
-slice-aggregate-k c = let s = c .before .before .before .before .before .before .before .before .before in sym (placed s .mosts ∙ used s)
+slice-aggregate-k c = sym (used (c .before .before .before .before .before .before .before .before .before) .2)
 
 met-requires : tie.Need-met-requires
 met-requires c κs =

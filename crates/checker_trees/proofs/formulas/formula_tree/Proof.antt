@@ -1,15 +1,13 @@
 use Prim.Native.Nat.{_+_}
-use mathlib.Core.Path.{_≡_, sym, ap, _∙_}
+use mathlib.Core.Path.{_≡_, sym, _∙_}
 use native.Mathlib.Omega.{arith}
 use lib.ListN.{length, length-map, take}
 use Rattle.page_meaning.specs.Limits.{mostVertices}
 use Rattle.page_walks.proofs.Rows.{sized}
-use Rattle.page_formulas.proofs.Trees.{kinds-length}
 use Rattle.program.specs.Compiled.{formulaOf}
-use Rattle.program.specs.declared.types.Formula.{Formula}
-use Rattle.program.proofs.Lends.{lent-of, shows-of, count-few, places-of, spanned-of, small-spans, same-few}
+use Rattle.program.specs.Held.{Formula}
+use Rattle.program.proofs.Lends.{kinds-long, places-long, lent-of, shows-of, count-few, places-of, spanned-of, small-spans, same-few}
 use Rattle.program.proofs.Ranges.{coded-of}
-use Rattle.facts.proofs.Places.{lengths}
 use Rattle.checker_trees.proofs.Standing.{left-all}
 use borrow.Author.Needs.{needs}
 use Rattle.checker_trees.proofs.formulas.formula_tree.Statement.{statement}
@@ -24,10 +22,10 @@ start-requires c κs = let s = c .before .before .before .before .before .before
 
 -- its used parts are as long as it says
 instructions : (s : tie.Start) → length (take (s .args .o .count) (s .args .kinds .now)) ≡ s .args .o .count
-instructions s = let i = s .pre in ap length (i .is .program .kinds) ∙ kinds-length (i .formula .program) ∙ sym (i .is .program .count)
+instructions s = kinds-long (coded-of (lent s) (s .pre .formula) (s .pre .is))
 
 used : (s : tie.Start) → let a = s .args in let n = a .o .places in (length (take n (a .left .now)) ≡ n) × (length (take n (a .right .now)) ≡ n) × (length (take n (a .most .now)) ≡ n)
-used s = let i = s .pre in lengths _ _ _ _ _ _ _ (coded-of (lent s) (i .formula) (i .is))
+used s = places-long (coded-of (lent s) (s .pre .formula) (s .pre .is))
 
 flags : (s : tie.Start) → length (s .args .o .vertices .present) ≡ mostVertices
 flags s = sym (length-map (s .args .o .vertices .present) _) ∙ s .good .1 .1 .1 .1 .0 .1 .1 .1 .1 .1 .0 .1 .1 .1 .0 .1 .0 .1

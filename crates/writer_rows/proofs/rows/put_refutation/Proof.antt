@@ -5,7 +5,7 @@ use Rattle.question.specs.Held.{questionOf}
 use Rattle.page_sheets.specs.Rows.{bytesOfRow}
 use Rattle.room.specs.Room.{Filling, filling, putOne, puts}
 use Rattle.writer_rows.specs.Rows.{rowsFor}
-use Rattle.writer_rows.proofs.ShownRows.{rows-alike}
+use Rattle.writer_rows.proofs.ShownRows.{rows-shown}
 use borrow.Author.Needs.{needs}
 use Rattle.writer_rows.proofs.rows.put_refutation.Statement.{statement}
 use Rattle.writer_rows.proofs.rows.put_refutation.Tie as tie
@@ -27,7 +27,7 @@ returns c =
     let q = questionOf (a .q) in
     c .before .before .put-rows .ensures
     ∙ ap (λ (f : Filling). puts f (bytesOfRow (rowsFor q (a .i) (a .pairs) (look (a .values))))) (c .before .before .before .before .before .before .put .ensures)
-    ∙ ap (λ (l : Values). puts (putOne (filling (now (a .room)) (a .spot)) (a .i)) (bytesOfRow l)) (rows-alike q (a .i) F (a .values) x (a .pairs) e rowed alike)
+    ∙ ap (λ (l : Values). puts (putOne (filling (now (a .room)) (a .spot)) (a .i)) (bytesOfRow l)) (rows-shown q (a .i) F (a .values) x (a .pairs) e rowed alike)
 
 pub put-refutation-spec : {M : Type 1} → statement M
 put-refutation-spec = tie.close (tie.spec put-requires put-rows-requires same-length returns)

@@ -1,6 +1,6 @@
 use native.Mathlib.Omega.{arith}
 use Prim.Native.Nat.{_-_}
-use mathlib.Core.Path.{_≡_, sym}
+use mathlib.Core.Path.{sym}
 use denote.Ref.{now}
 use lib.ListN.{length, take}
 use Rattle.page_meaning.specs.Limits.{mostVertices}
@@ -8,12 +8,11 @@ use Rattle.page_walks.proofs.Rows.{sized}
 use Rattle.page_formulas.specs.Formulas.{Formula}
 use Rattle.page_formulas.specs.Proper.{Proper}
 use Rattle.program.specs.Lent.{Coded}
-use Rattle.program.specs.declared.types.Formula as compiled
+use Rattle.program.specs.Held as compiled
 use Rattle.program.specs.Compiled.{Compiled, formulaOf}
-use Rattle.program.proofs.Lends.{small-spans, spanned-of}
+use Rattle.program.proofs.Lends.{kinds-long, places-long, small-spans, spanned-of}
 use Rattle.program.proofs.Ranges.{coded-of, ranging-of, ranged}
-use Rattle.facts.proofs.Places.{lengths}
-use Rattle.writer_trees.proofs.Plants.{Begun, begun-of, root-ready, root-grows, kinds-long}
+use Rattle.writer_trees.proofs.Plants.{Begun, begun-of, root-ready, root-grows}
 use borrow.Author.Needs.{needs}
 use Rattle.writer_trees.proofs.trees.plant_formula.Statement.{statement}
 use Rattle.writer_trees.proofs.trees.plant_formula.Tie as tie
@@ -46,24 +45,24 @@ sub-t20 : tie.Need-sub-t20
 sub-t20 c = search needs
 
 slice-aggregate-grow : tie.Need-slice-aggregate-grow
-slice-aggregate-grow c = sym (kinds-long _ _ _ _ _ _ _ (coded (c .before .before .before .before .before .before .before .before .before .before .before .before .before .before)))
+slice-aggregate-grow c = sym (kinds-long (coded (c .before .before .before .before .before .before .before .before .before .before .before .before .before .before)))
 
 slice-aggregate-grow-2 : tie.Need-slice-aggregate-grow-2
-slice-aggregate-grow-2 c = sym (lengths _ _ _ _ _ _ _ (coded (c .before .before .before .before .before .before .before .before .before .before .before .before .before .before .before)) .0)
+slice-aggregate-grow-2 c = sym (places-long (coded (c .before .before .before .before .before .before .before .before .before .before .before .before .before .before .before)) .0)
 
 slice-aggregate-grow-3 : tie.Need-slice-aggregate-grow-3
-slice-aggregate-grow-3 c = sym (lengths _ _ _ _ _ _ _ (coded (c .before .before .before .before .before .before .before .before .before .before .before .before .before .before .before .before)) .1)
+slice-aggregate-grow-3 c = sym (places-long (coded (c .before .before .before .before .before .before .before .before .before .before .before .before .before .before .before .before)) .1)
 
 slice-aggregate-grow-4 : tie.Need-slice-aggregate-grow-4
-slice-aggregate-grow-4 c = sym (lengths _ _ _ _ _ _ _ (coded (c .before .before .before .before .before .before .before .before .before .before .before .before .before .before .before .before .before)) .2)
+slice-aggregate-grow-4 c = sym (places-long (coded (c .before .before .before .before .before .before .before .before .before .before .before .before .before .before .before .before .before)) .2)
 
 grow-requires : tie.Need-grow-requires
 grow-requires c κs =
     let s = c .before .before .before .before .before .before .before .before .before .before .before .before .before .before .before .before .before .before .before in
     let q = s .pre in
     let k = coded s in
-    let l = lengths _ _ _ _ _ _ _ k in (
-      omega (arith, kinds-long _ _ _ _ _ _ _ k, k .n-is, q .proper .short),
+    let l = places-long k in (
+      omega (arith, kinds-long k, k .n-is, q .proper .short),
       omega (arith, l .2),
       root-ready _ _ _ _ _ _ _ k (q .proper) (s .args .o .vertices .count - 1) (omega (arith, q .is .vertices .count)) _ _ (c .before .before .before .before .before .before .before .before .before .before .before .before .before .start .ensures .meaning _ (spanned-of (given s) (q .formula) (q .is) (q .proper .vertices))) (near-is (c .before .before .before .before .before .before .before .before .before .before .before .before) (q .formula) (q .is) (q .proper)),
     )
@@ -75,7 +74,7 @@ returns : tie.Need-returns
 returns c =
     let s = c .before .before .before .before .before .before .before .before .before .before .before .before .before .before .before .before .before .before .before .before .before .before in
     let f = given s in
-    λ F is proper. root-grows F _ _ _ _ _ _ (coded-of f F is) proper (f .vertices .count - 1) (length (take (f .program .places) (f .program .most)) - f .program .places) (omega (arith, is .vertices .count)) (omega (arith, lengths F _ _ _ _ _ _ (coded-of f F is) .2)) _ _ _ (c .before .before .before .before .before .before .before .before .before .before .before .before .before .before .before .before .start .ensures .meaning _ (spanned-of f F is (proper .vertices))) (near-is (c .before .before .before .before .before .before .before .before .before .before .before .before .before .before .before) F is proper) (now (s .args .room)) (s .args .spot) _ _ (c .before .before .grow .ensures F (coded-of f F is .lent))
+    λ F is proper. root-grows F _ _ _ _ _ _ (coded-of f F is) proper (f .vertices .count - 1) (length (take (f .program .places) (f .program .most)) - f .program .places) (omega (arith, is .vertices .count)) (omega (arith, places-long (coded-of f F is) .2)) _ _ _ (c .before .before .before .before .before .before .before .before .before .before .before .before .before .before .before .before .start .ensures .meaning _ (spanned-of f F is (proper .vertices))) (near-is (c .before .before .before .before .before .before .before .before .before .before .before .before .before .before .before) F is proper) (now (s .args .room)) (s .args .spot) _ _ (c .before .before .grow .ensures F (coded-of f F is .lent))
 
 pub plant-formula-spec : {M : Type 1} → statement M
 plant-formula-spec =
