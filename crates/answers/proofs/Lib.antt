@@ -1,2 +1,2 @@
-pub mod Asks
+pub mod Readings
 pub mod Promises

@@ -4,10 +4,10 @@ use mathlib.Core.Path.{_≡_, sym, ap, _∙_}
 use mathlib.Core.List.{List}
 use Rattle.page_sheets.specs.Answers.{verdictOf, writeOf, checkOf}
 use Rattle.page_sheets.specs.Demands.{Unique}
-use Rattle.outcome.specs.Told.{judgedOf, doneOf}
+use Rattle.outcome.specs.Answers.{judgedOf, doneOf}
 use Rattle.outcome.specs.declared.Judged.{Judged}
 use Rattle.outcome.specs.declared.Written.{Written}
-use Rattle.outcome.proofs.Alike.{same-judged, same-written}
+use Rattle.outcome.proofs.Uniqueness.{same-judged, same-written}
 
 pub verdict-unique : (a : ℕ) (s : List ℕ) → Unique (λ (r : Judged). judgedOf r ≡ verdictOf a s)
 verdict-unique a s r r' e e' = same-judged r r' (e ∙ sym e')

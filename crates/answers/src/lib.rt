@@ -8,7 +8,7 @@ use verdicts::verdict::judge;
 use writer::finish;
 ghost use mathlib.Core.Path.{_≡_};
 ghost use Rattle.page_sheets.specs.Answers.{verdictOf, writeOf, checkOf};
-ghost use Rattle.outcome.specs.Told.{judgedOf, doneOf};
+ghost use Rattle.outcome.specs.Answers.{judgedOf, doneOf};
 
 // The verdict alone: asked 1 irrelevant, 2 computable.
 pub fn verdict(asked: u8, question: &[u8]) -> Judged
@@ -18,7 +18,7 @@ pub fn verdict(asked: u8, question: &[u8]) -> Judged
     let a = r.answer;
     let q = r.question;
     match a {
-        Answer::Good => Judged::Says(judge(q, asked)),
+        Answer::Good => Judged::Good(judge(q, asked)),
         Answer::Refused(n, p) => Judged::Refused(n, p),
     }
 }

@@ -22,7 +22,7 @@ fn refused(asked: u8, number: u8, place: usize) -> bool {
 fn line(asked: u8, question: &[u8], room: &mut [u8]) -> bool {
     let written = answers::write(asked, question, room);
     match written {
-        Written::Sheet(verdict, length) => {
+        Written::Good(verdict, length) => {
             words::answer(asked, verdict, length);
             line_end();
             true

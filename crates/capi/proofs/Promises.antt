@@ -3,7 +3,7 @@ use Prim.Native.Nat.{ℕ}
 use mathlib.Core.Path.{_≡_, sym, ap, _∙_}
 use mathlib.Core.List.{List}
 use Rattle.page_sheets.specs.Answers.{verdictOf, writeOf, checkOf}
-use Rattle.capi.specs.Returned.{Returned, leaves, leavesRoom, answer, done}
+use Rattle.capi.specs.Returns.{Returned, leaves, leavesRoom, answer, done}
 
 -- three numbers that a function may leave, each for each the same
 abbrev pub Left : Returned → ℕ → ℕ → ℕ → Type 0

@@ -6,8 +6,8 @@ use outcome::Written;
 ghost use mathlib.Core.Path.{_≡_};
 ghost use Rattle.page_sheets.specs.Sheet.{verdictByte};
 ghost use Rattle.page_sheets.specs.Answers.{verdictOf, writeOf, checkOf};
-ghost use Rattle.outcome.specs.Told as answered;
-ghost use Rattle.capi.specs.Returned.{leaves, leavesRoom, answer, done};
+ghost use Rattle.outcome.specs.Answers as answered;
+ghost use Rattle.capi.specs.Returns.{leaves, leavesRoom, answer, done};
 
 // What the verdict's place holds where there is none: no caller takes it for a verdict.
 const NO_VERDICT: u8 = 255;
@@ -26,7 +26,7 @@ fn leave(told: Judged, verdict: &mut u8, place: &mut u64) -> u8
     ensures { λ r. ⌜ leaves r (now (verdict .exit)) (now (place .exit)) ≡ answer (answered.judgedOf told) ⌝ }
 {
     match told {
-        Judged::Says(v) => {
+        Judged::Good(v) => {
             *verdict = byte_of(v);
             *place = 0;
             0
@@ -59,7 +59,7 @@ pub extern "C" fn vu_write(
 {
     let told = answers::write(asked, question, room);
     match told {
-        Written::Sheet(v, length) => {
+        Written::Good(v, length) => {
             *verdict = byte_of(v);
             *place = length as u64;
             0

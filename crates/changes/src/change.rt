@@ -2,17 +2,18 @@
 ghost use Prim.Native.Nat.{ℕ, _+_, _≤_};
 ghost use mathlib.Core.Path.{_≡_};
 ghost use lib.ListN.{length};
+ghost use Rattle.page_numbers.specs.Outcome.{refused};
 ghost use Rattle.page_meaning.specs.Contents as meaning;
 ghost use Rattle.page_meaning.specs.Limits.{mostColumns, mostTokens, mostRows};
-ghost use Rattle.page_questions.specs.Reader.{insertAt, deleteAt, modifyAt, changeAt, andThen, found, bad};
+ghost use Rattle.page_questions.specs.Reader.{insertAt, deleteAt, modifyAt, changeAt, andThen, found};
 ghost use Rattle.question.specs.Held.{ChangeHeld, conditionOf, rowOf, settingOf};
-ghost use Rattle.changes.specs.Deeds.{DeedRead};
+ghost use Rattle.changes.specs.Changes.{MeansChange};
 ghost use Rattle.question.specs.Parts.{listOf, rangesAt};
-use crate::modes::Settings;
+use crate::modes::SettingsRead;
 use crate::modes::modes_at;
-use crate::rows::Lines;
+use crate::rows::RowsRead;
 use crate::rows::rows_at;
-use fields::fields::Byte;
+use fields::fields::ByteRead;
 use fields::fields::byte_at;
 use limits::COLUMNS;
 use limits::PAST_ROWS;
@@ -29,7 +30,7 @@ use tokens::condition::always;
 use tokens::condition::condition_at;
 
 // A change and the next offset, or a refusal.
-pub struct Deed {
+pub struct ChangeRead {
     pub answer: Answer,
     pub change: Change,
     pub next: usize,
@@ -50,10 +51,10 @@ pub fn no_change() -> Change
     }
 }
 
-fn no_deed(n: u8, at: usize) -> Deed
-    ensures { λ r. ⌜ ((width : ℕ) → DeedRead width r (bad n at)) ⌝ }
+fn refused_change(n: u8, at: usize) -> ChangeRead
+    ensures { λ r. ⌜ ((width : ℕ) → MeansChange width r (refused n at)) ⌝ }
 {
-    Deed {
+    ChangeRead {
         answer: Answer::Refused(n, at),
         change: no_change(),
         next: at,
@@ -61,14 +62,14 @@ fn no_deed(n: u8, at: usize) -> Deed
 }
 
 // An insert of the first n rows that were read.
-fn inserted(n: usize, lines: Lines) -> Deed
+fn inserted(n: usize, read: RowsRead) -> ChangeRead
     requires { ⌜ n ≤ mostRows ⌝ }
-    ensures { λ r. ⌜ ((width : ℕ) → DeedRead width r (andThen (listOf (rowOf width) (lines .answer) n (lines .rows) (lines .next)) (λ rs q. found (meaning.insert rs) q))) ⌝ }
+    ensures { λ r. ⌜ ((width : ℕ) → MeansChange width r (andThen (listOf (rowOf width) (read .answer) n (read .rows) (read .next)) (λ rs q. found (meaning.insert rs) q))) ⌝ }
 {
-    let answer = lines.answer;
-    let rows = lines.rows;
+    let answer = read.answer;
+    let rows = read.rows;
     match answer {
-        Answer::Good => Deed {
+        Answer::Good => ChangeRead {
             answer: Answer::Good,
             change: Change {
                 verb: Verb::Insert,
@@ -77,35 +78,41 @@ fn inserted(n: usize, lines: Lines) -> Deed
                 condition: always(),
                 settings: [Setting { mode: Mode::Keep }; COLUMNS],
             },
-            next: lines.next,
+            next: read.next,
         },
-        Answer::Refused(m, at) => no_deed(m, at),
+        Answer::Refused(m, at) => refused_change(m, at),
     }
 }
 
-fn insert_at(s: &[u8], columns: [Column; COLUMNS], first: usize, width: usize, p: usize) -> Deed
+fn insert_at(
+    s: &[u8],
+    columns: [Column; COLUMNS],
+    first: usize,
+    width: usize,
+    p: usize,
+) -> ChangeRead
     requires { ⌜ first + width ≤ mostColumns ⌝ }
     requires { ⌜ length columns ≡ mostColumns ⌝ }
-    ensures { λ r. ⌜ DeedRead width r (insertAt (now (s .entry)) (rangesAt columns first width) p) ⌝ }
+    ensures { λ r. ⌜ MeansChange width r (insertAt (now (s .entry)) (rangesAt columns first width) p) ⌝ }
 {
     let b = byte_at(s, 4, 0, PAST_ROWS, p);
     match b {
-        Byte::Is(n, q) => {
+        ByteRead::Good(n, q) => {
             let count = n as usize;
             inserted(count, rows_at(s, columns, first, width, count, q))
         }
-        Byte::Not(m, at) => no_deed(m, at),
+        ByteRead::Refused(m, at) => refused_change(m, at),
     }
 }
 
-fn delete_at(s: &[u8], low: usize, high: usize, p: usize) -> Deed
-    ensures { λ r. ⌜ ((width : ℕ) → DeedRead width r (deleteAt (now (s .entry)) low high p)) ⌝ }
+fn delete_at(s: &[u8], low: usize, high: usize, p: usize) -> ChangeRead
+    ensures { λ r. ⌜ ((width : ℕ) → MeansChange width r (deleteAt (now (s .entry)) low high p)) ⌝ }
 {
-    let clause = condition_at(s, low, high, p);
-    let answer = clause.answer;
-    let condition = clause.condition;
+    let read = condition_at(s, low, high, p);
+    let answer = read.answer;
+    let condition = read.condition;
     match answer {
-        Answer::Good => Deed {
+        Answer::Good => ChangeRead {
             answer: Answer::Good,
             change: Change {
                 verb: Verb::Delete,
@@ -116,21 +123,21 @@ fn delete_at(s: &[u8], low: usize, high: usize, p: usize) -> Deed
                 condition: condition,
                 settings: [Setting { mode: Mode::Keep }; COLUMNS],
             },
-            next: clause.next,
+            next: read.next,
         },
-        Answer::Refused(m, at) => no_deed(m, at),
+        Answer::Refused(m, at) => refused_change(m, at),
     }
 }
 
 // A modify by a condition and the first n settings that were read.
-fn modified(condition: Condition, n: usize, read: Settings) -> Deed
+fn modified(condition: Condition, n: usize, read: SettingsRead) -> ChangeRead
     requires { ⌜ condition .count ≤ mostTokens ⌝ }
-    ensures { λ r. ⌜ DeedRead n r (andThen (listOf settingOf (read .answer) n (read .settings) (read .next)) (λ ms q. found (meaning.modify (conditionOf condition) ms) q)) ⌝ }
+    ensures { λ r. ⌜ MeansChange n r (andThen (listOf settingOf (read .answer) n (read .settings) (read .next)) (λ ms q. found (meaning.modify (conditionOf condition) ms) q)) ⌝ }
 {
     let answer = read.answer;
     let settings = read.settings;
     match answer {
-        Answer::Good => Deed {
+        Answer::Good => ChangeRead {
             answer: Answer::Good,
             change: Change {
                 verb: Verb::Modify,
@@ -143,25 +150,21 @@ fn modified(condition: Condition, n: usize, read: Settings) -> Deed
             },
             next: read.next,
         },
-        Answer::Refused(m, at) => no_deed(m, at),
+        Answer::Refused(m, at) => refused_change(m, at),
     }
 }
 
-fn modify_at(s: &[u8], first: usize, width: usize, p: usize) -> Deed
+fn modify_at(s: &[u8], first: usize, width: usize, p: usize) -> ChangeRead
     requires { ⌜ first + width ≤ mostColumns ⌝ }
-    ensures { λ r. ⌜ DeedRead width r (modifyAt (now (s .entry)) first width p) ⌝ }
+    ensures { λ r. ⌜ MeansChange width r (modifyAt (now (s .entry)) first width p) ⌝ }
 {
     let high = first + width;
-    let clause = condition_at(s, first, high, p);
-    let answer = clause.answer;
-    let condition = clause.condition;
+    let read = condition_at(s, first, high, p);
+    let answer = read.answer;
+    let condition = read.condition;
     match answer {
-        Answer::Good => modified(
-            condition,
-            width,
-            modes_at(s, first, high, width, clause.next),
-        ),
-        Answer::Refused(m, at) => no_deed(m, at),
+        Answer::Good => modified(condition, width, modes_at(s, first, high, width, read.next)),
+        Answer::Refused(m, at) => refused_change(m, at),
     }
 }
 
@@ -173,10 +176,10 @@ pub fn change_at(
     first: usize,
     width: usize,
     p: usize,
-) -> Deed
+) -> ChangeRead
     requires { ⌜ first + width ≤ mostColumns ⌝ }
     requires { ⌜ length columns ≡ mostColumns ⌝ }
-    ensures { λ r. ⌜ DeedRead width r (changeAt (now (s .entry)) kind first (rangesAt columns first width) p) ⌝ }
+    ensures { λ r. ⌜ MeansChange width r (changeAt (now (s .entry)) kind first (rangesAt columns first width) p) ⌝ }
 {
     match kind {
         1 => insert_at(s, columns, first, width, p),

@@ -5,9 +5,9 @@ ghost use mathlib.Core.List.{[]};
 ghost use Rattle.page_meaning.specs.Limits.{mostColumns};
 ghost use Rattle.page_questions.specs.Reader.{modeAt, many, andThen};
 ghost use Rattle.question.specs.Held.{modeOf};
-ghost use Rattle.changes.specs.Deeds.{operandOf, operandsAt, modeNamed, choiceOf, chosenBy, choiceAt, SettingsRead};
-use fields::fields::Byte;
-use fields::fields::Number;
+ghost use Rattle.changes.specs.Changes.{operandMeant, operandsAt, modeNamed, modeMeant, chosenBy, choiceAt, MeansSettings};
+use fields::fields::ByteRead;
+use fields::fields::NumberRead;
 use fields::fields::byte_at;
 use fields::fields::number_at;
 use limits::COLUMNS;
@@ -16,15 +16,15 @@ use question::types::Mode;
 use question::types::Setting;
 
 // A mode's column byte and constant and the offset after them, or a refusal.
-pub enum Operand {
-    Is(u8, i32, usize),
-    Not(u8, usize),
+pub enum OperandRead {
+    Good(u8, i32, usize),
+    Refused(u8, usize),
 }
 
 // A mode and the offset after it, or a refusal.
-pub enum Choice {
-    Is(Mode, usize),
-    Not(u8, usize),
+pub enum ModeRead {
+    Good(Mode, usize),
+    Refused(u8, usize),
 }
 
 // The column byte from `low` on and below `high`, else refusal n; the constant within lo..hi, else refusal m.
@@ -37,19 +37,19 @@ fn operand_at(
     lo: i32,
     hi: i32,
     p: usize,
-) -> Operand
-    ensures { λ r. ⌜ operandOf r ≡ operandsAt (now (s .entry)) n low high m lo hi p ⌝ }
+) -> OperandRead
+    ensures { λ r. ⌜ operandMeant r ≡ operandsAt (now (s .entry)) n low high m lo hi p ⌝ }
 {
     let b = byte_at(s, n, low, high, p);
     match b {
-        Byte::Is(column, q) => {
+        ByteRead::Good(column, q) => {
             let v = number_at(s, m, lo, hi, q);
             match v {
-                Number::Is(k, next) => Operand::Is(column, k, next),
-                Number::Not(x, at) => Operand::Not(x, at),
+                NumberRead::Good(k, next) => OperandRead::Good(column, k, next),
+                NumberRead::Refused(x, at) => OperandRead::Refused(x, at),
             }
         }
-        Byte::Not(x, at) => Operand::Not(x, at),
+        ByteRead::Refused(x, at) => OperandRead::Refused(x, at),
     }
 }
 
@@ -63,18 +63,18 @@ fn mode_of(m: u8, column: u8, k: i32) -> Mode
     }
 }
 
-fn chosen(m: u8, o: Operand) -> Choice
-    ensures { λ r. ⌜ choiceOf r ≡ andThen (operandOf o) (chosenBy m) ⌝ }
+fn chosen(m: u8, o: OperandRead) -> ModeRead
+    ensures { λ r. ⌜ modeMeant r ≡ andThen (operandMeant o) (chosenBy m) ⌝ }
 {
     match o {
-        Operand::Is(column, k, next) => Choice::Is(mode_of(m, column, k), next),
-        Operand::Not(n, at) => Choice::Not(n, at),
+        OperandRead::Good(column, k, next) => ModeRead::Good(mode_of(m, column, k), next),
+        OperandRead::Refused(n, at) => ModeRead::Refused(n, at),
     }
 }
 
 // A mode after its byte: keep and constant name no column, keep's constant is 0.
-fn choice_at(s: &[u8], low: usize, high: usize, m: u8, p: usize) -> Choice
-    ensures { λ r. ⌜ choiceOf r ≡ choiceAt (now (s .entry)) low high m p ⌝ }
+fn choice_at(s: &[u8], low: usize, high: usize, m: u8, p: usize) -> ModeRead
+    ensures { λ r. ⌜ modeMeant r ≡ choiceAt (now (s .entry)) low high m p ⌝ }
 {
     match m {
         0 => chosen(0, operand_at(s, 4, 255, 256, 4, 0, 0, p)),
@@ -86,26 +86,26 @@ fn choice_at(s: &[u8], low: usize, high: usize, m: u8, p: usize) -> Choice
     }
 }
 
-fn mode_at(s: &[u8], low: usize, high: usize, p: usize) -> Choice
-    ensures { λ r. ⌜ choiceOf r ≡ modeAt (now (s .entry)) low high p ⌝ }
+fn mode_at(s: &[u8], low: usize, high: usize, p: usize) -> ModeRead
+    ensures { λ r. ⌜ modeMeant r ≡ modeAt (now (s .entry)) low high p ⌝ }
 {
     let b = byte_at(s, 4, 0, 3, p);
     match b {
-        Byte::Is(m, q) => choice_at(s, low, high, m, q),
-        Byte::Not(n, at) => Choice::Not(n, at),
+        ByteRead::Good(m, q) => choice_at(s, low, high, m, q),
+        ByteRead::Refused(n, at) => ModeRead::Refused(n, at),
     }
 }
 
 // Settings and the next offset, or a refusal.
-pub struct Settings {
+pub struct SettingsRead {
     pub answer: Answer,
     pub settings: [Setting; COLUMNS],
     pub next: usize,
 }
 
-pub fn modes_at(s: &[u8], low: usize, high: usize, n: usize, p: usize) -> Settings
+pub fn modes_at(s: &[u8], low: usize, high: usize, n: usize, p: usize) -> SettingsRead
     requires { ⌜ n ≤ mostColumns ⌝ }
-    ensures { λ r. ⌜ SettingsRead n r (many (λ ms q. modeAt (now (s .entry)) low high q) n [] p) ⌝ }
+    ensures { λ r. ⌜ MeansSettings n r (many (λ ms q. modeAt (now (s .entry)) low high q) n [] p) ⌝ }
 {
     let mut settings = [Setting { mode: Mode::Keep }; COLUMNS];
     let mut next = p;
@@ -113,13 +113,13 @@ pub fn modes_at(s: &[u8], low: usize, high: usize, n: usize, p: usize) -> Settin
     while i < n {
         let choice = mode_at(s, low, high, next);
         match choice {
-            Choice::Is(mode, q) => {
+            ModeRead::Good(mode, q) => {
                 settings[i] = Setting { mode: mode };
                 next = q;
                 i += 1;
             }
-            Choice::Not(m, at) => {
-                return Settings {
+            ModeRead::Refused(m, at) => {
+                return SettingsRead {
                     answer: Answer::Refused(m, at),
                     settings: settings,
                     next: at,
@@ -127,7 +127,7 @@ pub fn modes_at(s: &[u8], low: usize, high: usize, n: usize, p: usize) -> Settin
             }
         }
     }
-    Settings {
+    SettingsRead {
         answer: Answer::Good,
         settings: settings,
         next: next,

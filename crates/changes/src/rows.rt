@@ -5,9 +5,9 @@ ghost use mathlib.Core.List.{[]};
 ghost use lib.ListN.{length};
 ghost use Rattle.page_meaning.specs.Limits.{mostColumns, mostRows};
 ghost use Rattle.page_questions.specs.Reader.{rowAt, many};
-ghost use Rattle.changes.specs.Deeds.{LineRead, LinesRead};
+ghost use Rattle.changes.specs.Changes.{MeansRow, MeansRows};
 ghost use Rattle.question.specs.Parts.{rangesAt};
-use fields::fields::Number;
+use fields::fields::NumberRead;
 use fields::fields::number_at;
 use limits::COLUMNS;
 use limits::ROWS;
@@ -16,16 +16,16 @@ use question::types::Column;
 use question::types::Row;
 
 // One row's values and the next offset, or a refusal.
-pub struct Line {
+pub struct RowRead {
     pub answer: Answer,
     pub row: Row,
     pub next: usize,
 }
 
-fn row_at(s: &[u8], columns: [Column; COLUMNS], first: usize, width: usize, p: usize) -> Line
+fn row_at(s: &[u8], columns: [Column; COLUMNS], first: usize, width: usize, p: usize) -> RowRead
     requires { ⌜ first + width ≤ mostColumns ⌝ }
     requires { ⌜ length columns ≡ mostColumns ⌝ }
-    ensures { λ r. ⌜ LineRead width r (rowAt (now (s .entry)) (rangesAt columns first width) p) ⌝ }
+    ensures { λ r. ⌜ MeansRow width r (rowAt (now (s .entry)) (rangesAt columns first width) p) ⌝ }
 {
     let mut values = [0i32; COLUMNS];
     let mut next = p;
@@ -34,13 +34,13 @@ fn row_at(s: &[u8], columns: [Column; COLUMNS], first: usize, width: usize, p: u
         let c = columns[first + i];
         let v = number_at(s, 5, c.lo, c.hi, next);
         match v {
-            Number::Is(value, q) => {
+            NumberRead::Good(value, q) => {
                 values[i] = value;
                 next = q;
                 i += 1;
             }
-            Number::Not(n, at) => {
-                return Line {
+            NumberRead::Refused(n, at) => {
+                return RowRead {
                     answer: Answer::Refused(n, at),
                     row: Row { values: values },
                     next: at,
@@ -48,7 +48,7 @@ fn row_at(s: &[u8], columns: [Column; COLUMNS], first: usize, width: usize, p: u
             }
         }
     }
-    Line {
+    RowRead {
         answer: Answer::Good,
         row: Row { values: values },
         next: next,
@@ -56,7 +56,7 @@ fn row_at(s: &[u8], columns: [Column; COLUMNS], first: usize, width: usize, p: u
 }
 
 // Rows and the next offset, or a refusal.
-pub struct Lines {
+pub struct RowsRead {
     pub answer: Answer,
     pub rows: [Row; ROWS],
     pub next: usize,
@@ -69,11 +69,11 @@ pub fn rows_at(
     width: usize,
     n: usize,
     p: usize,
-) -> Lines
+) -> RowsRead
     requires { ⌜ first + width ≤ mostColumns ⌝ }
     requires { ⌜ length columns ≡ mostColumns ⌝ }
     requires { ⌜ n ≤ mostRows ⌝ }
-    ensures { λ r. ⌜ LinesRead width n r (many (λ rs q. rowAt (now (s .entry)) (rangesAt columns first width) q) n [] p) ⌝ }
+    ensures { λ r. ⌜ MeansRows width n r (many (λ rs q. rowAt (now (s .entry)) (rangesAt columns first width) q) n [] p) ⌝ }
 {
     let mut rows = [Row {
         values: [0i32; COLUMNS],
@@ -81,17 +81,17 @@ pub fn rows_at(
     let mut next = p;
     let mut i = 0;
     while i < n {
-        let line = row_at(s, columns, first, width, next);
-        let answer = line.answer;
+        let read = row_at(s, columns, first, width, next);
+        let answer = read.answer;
         match answer {
             Answer::Good => {
-                let row = line.row;
+                let row = read.row;
                 rows[i] = row;
-                next = line.next;
+                next = read.next;
                 i += 1;
             }
             Answer::Refused(m, at) => {
-                return Lines {
+                return RowsRead {
                     answer: Answer::Refused(m, at),
                     rows: rows,
                     next: at,
@@ -99,7 +99,7 @@ pub fn rows_at(
             }
         }
     }
-    Lines {
+    RowsRead {
         answer: Answer::Good,
         rows: rows,
         next: next,

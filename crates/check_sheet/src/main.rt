@@ -24,7 +24,7 @@ fn passes(verdict: Verdict, asked: u8, question: &[u8], sheet: &[u8]) {
 fn work(asked: u8, question: &[u8], sheet: &[u8]) {
     let checked = answers::check(asked, question, sheet);
     match checked {
-        Judged::Says(verdict) => passes(verdict, asked, question, sheet),
+        Judged::Good(verdict) => passes(verdict, asked, question, sheet),
         Judged::Refused(number, place) => words::explained(number, place),
     }
 }

@@ -5,9 +5,9 @@ use outcome::Judged;
 use question::types::Question;
 ghost use mathlib.Core.Path.{_≡_};
 ghost use Rattle.question.specs.Held.{Held, questionOf};
-ghost use Rattle.page_questions.specs.Accepted.{Accepted};
+ghost use Rattle.page_questions.specs.Guarantees.{Accepted};
 ghost use Rattle.page_sheets.specs.Sheet.{checkSheet};
-ghost use Rattle.outcome.specs.Told.{judgedOf};
+ghost use Rattle.outcome.specs.Answers.{judgedOf};
 ghost use Rattle.checker.specs.Header.{fromAsked};
 
 // Asked, and the verdict that says whether trees or rows follow.

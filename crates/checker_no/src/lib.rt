@@ -15,16 +15,17 @@ ghost use mathlib.Core.Path.{_≡_};
 ghost use mathlib.Core.Bool.{cond};
 ghost use Prim.Native.Nat.{_+_, _≤_, _<_};
 ghost use lib.ListN.{length};
+ghost use Rattle.page_numbers.specs.Outcome.{good, refused};
 ghost use Rattle.page_meaning.specs.Contents as meant;
 ghost use Rattle.page_meaning.specs.Limits.{mostColumns, mostVertices};
 ghost use Rattle.question.specs.Held.{Held, questionOf};
-ghost use Rattle.page_questions.specs.Accepted.{Accepted};
+ghost use Rattle.page_questions.specs.Guarantees.{Accepted};
 ghost use Rattle.page_formulas.specs.Formulas.{formulas};
 ghost use Rattle.page_formulas.specs.Formulas as spec;
 ghost use Rattle.program.specs.Compiled.{Compiled, Fine, formulaOf};
 ghost use Rattle.page_sheets.specs.Rows as rows;
-ghost use Rattle.page_sheets.specs.Sheet.{says, sayNo, refusal, noEnd, checkRows, checkNo};
-ghost use Rattle.outcome.specs.Told.{judgedOf};
+ghost use Rattle.page_sheets.specs.Sheet.{sayNo, noEnd, checkRows, checkNo};
+ghost use Rattle.outcome.specs.Answers.{judgedOf};
 
 // How many values the rows have, by whether there are two rows.
 fn value_count(total: usize, pairs: bool) -> usize
@@ -36,11 +37,11 @@ fn value_count(total: usize, pairs: bool) -> usize
 
 // After the values: a failing formula comes before bytes that are left.
 fn ending(met: bool, ended: bool) -> Judged
-    ensures { λ r. ⌜ judgedOf r ≡ cond met (cond ended (says sayNo) (refusal 16 0)) (refusal 15 7) ⌝ }
+    ensures { λ r. ⌜ judgedOf r ≡ cond met (cond ended (good sayNo) (refused 16 0)) (refused 15 7) ⌝ }
 {
     if met {
         if ended {
-            return Judged::Says(Verdict::No);
+            return Judged::Good(Verdict::No);
         }
         return Judged::Refused(16, 0);
     }
@@ -82,7 +83,7 @@ fn formula_rows(
     let count = value_count(q.shape.total, o.pairs);
     let reading = fields(q, i, sheet, count);
     match reading {
-        Reading::All => rows_end(kinds, left, right, most, o, sheet, count),
+        Reading::Good => rows_end(kinds, left, right, most, o, sheet, count),
         Reading::Refused(number, place) => Judged::Refused(number, place),
     }
 }

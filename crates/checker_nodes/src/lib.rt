@@ -1,7 +1,7 @@
 // FORMAT 8.2: the nodes of a case tree, one at a time, and what the checker says of each.
 use limits::PLACES;
 use limits::VERTICES;
-use truth::knowing::Truth;
+use truth::truths::Truth;
 ghost use Rattle.page_formulas.specs.Costs.{mostInstructions};
 ghost use mathlib.Core.Path.{_≡_};
 ghost use Prim.Native.Nat.{ℕ, _+_, _≤_, _<_};
@@ -18,18 +18,18 @@ ghost use Rattle.page_formulas.specs.Kinds.{knownKinds};
 ghost use Rattle.page_formulas.specs.Formulas.{Formula};
 ghost use Rattle.page_sheets.specs.Tree.{falseNode, cycleNode};
 ghost use Rattle.checker_nodes.specs.Nodes.{outcomeOf, Named};
-ghost use Rattle.program.specs.Lent.{Shows};
+ghost use Rattle.program.specs.Lent.{Flagged};
 
 // Where a tree, or a part of it, ends in the bytes that were lent; or the number that says no, and where.
 pub enum Past {
-    At(usize),
+    Good(usize),
     Refused(u8, usize),
 }
 
 // The vertices of a node 2: all there, or the first that is missing or that the formula lacks.
 pub enum Naming {
-    All,
-    Lacking(u8, usize),
+    Good,
+    Refused(u8, usize),
 }
 
 // The first `count` bytes as vertices.
@@ -39,19 +39,19 @@ fn named(shown: &[bool], bytes: &[u8], count: usize) -> Naming
     let mut i: usize = 0;
     while i < count {
         if bytes.len() <= i {
-            return Naming::Lacking(11, i);
+            return Naming::Refused(11, i);
         }
         let v = bytes[i] as usize;
         if shown.len() <= v {
-            return Naming::Lacking(14, i);
+            return Naming::Refused(14, i);
         }
         if shown[v] {
             i += 1;
             continue;
         }
-        return Naming::Lacking(14, i);
+        return Naming::Refused(14, i);
     }
-    Naming::All
+    Naming::Good
 }
 
 // Node 1: the formula is false by what was decided.
@@ -65,9 +65,9 @@ pub fn false_leaf(
     requires { ⌜ (length (now kinds) ≤ mostInstructions) × (decided ≤ mostDecisions) × (at < length (now part)) ⌝ }
     ensures { λ r. ⌜ ((base : ℕ) → outcomeOf base (now (part .entry)) r ≡ falseNode (knownKinds (now (kinds .entry)) (map bit (take decided truths))) (base + at) (drop (at + 1) (now (part .entry)))) ⌝ }
 {
-    let t = truth::knowing::known(kinds, &truths[..decided]);
+    let t = truth::truths::known(kinds, &truths[..decided]);
     match t {
-        Truth::Fails => Past::At(at + 1),
+        Truth::Fails => Past::Good(at + 1),
         Truth::Passes => Past::Refused(15, at),
         Truth::Open => Past::Refused(15, at),
     }
@@ -87,7 +87,7 @@ fn below_zero(g: &[[i64; VERTICES]; VERTICES], vertices: &[u8]) -> bool
 pub fn cycle(shown: &[bool], g: &[[i64; VERTICES]; VERTICES], part: &[u8], at: usize) -> Past
     requires { ⌜ (length (now shown) ≤ mostVertices) × (at < length (now part)) ⌝ }
     requires { ⌜ Sized mostVertices (now g) × AllWithin farN mostVertices (now g) ⌝ }
-    ensures { λ r. ⌜ ((F : Formula) (base : ℕ) → Shows (now (shown .entry)) (F .ranges) → outcomeOf base (now (part .entry)) r ≡ cycleNode mostVertices F (now (g .entry)) (base + at) (drop (at + 1) (now (part .entry)))) ⌝ }
+    ensures { λ r. ⌜ ((F : Formula) (base : ℕ) → Flagged (now (shown .entry)) (F .ranges) → outcomeOf base (now (part .entry)) r ≡ cycleNode mostVertices F (now (g .entry)) (base + at) (drop (at + 1) (now (part .entry)))) ⌝ }
 {
     let from = at + 1;
     if part.len() <= from {
@@ -104,12 +104,12 @@ pub fn cycle(shown: &[bool], g: &[[i64; VERTICES]; VERTICES], part: &[u8], at: u
     let bytes = &part[first..];
     let found = named(shown, bytes, count);
     match found {
-        Naming::All => {
+        Naming::Good => {
             if below_zero(g, &bytes[..count]) {
-                return Past::At(first + count);
+                return Past::Good(first + count);
             }
             Past::Refused(15, at)
         }
-        Naming::Lacking(number, p) => Past::Refused(number, first + p),
+        Naming::Refused(number, p) => Past::Refused(number, first + p),
     }
 }

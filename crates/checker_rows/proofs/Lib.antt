@@ -1,3 +1,3 @@
-pub mod Allowed
-pub mod Valued
+pub mod AllowedValues
+pub mod FieldValues
 pub mod Truths

@@ -12,13 +12,13 @@ use Rattle.page_meaning.specs.Limits.{mostDecisions}
 use Rattle.truth.specs.Cells.{bit}
 use Rattle.page_formulas.specs.Program.{Values, Place, test, truth, places}
 use Rattle.page_formulas.specs.Kinds.{nowhere, knownKinds}
-use Rattle.page_formulas.specs.Known.{Three, fails, passes, open?, known}
+use Rattle.page_formulas.specs.Knowledge.{Three, fails, passes, open?, known}
 use Rattle.page_formulas.specs.Formulas.{Formula}
-use Rattle.page_formulas.specs.Said.{Agrees, Says, Sure}
-use Rattle.page_formulas.proofs.Knows.{known-says, known-sure, known-kinds}
+use Rattle.page_formulas.specs.Truths.{Agrees, Says, Sure}
+use Rattle.page_formulas.proofs.Truths.{known-says, known-sure, known-kinds}
 use Rattle.program.specs.Lent.{Lent}
 use Rattle.checker_rows.specs.NoSheet.{testAt, Tested}
-use Rattle.program.proofs.Lends.{lent-length, lent-place}
+use Rattle.program.proofs.Loans.{lent-length, lent-place}
 
 agrees-by : (x : Values) (ps : List Place) (ds : List Bool) → ((i : ℕ) → i < length ps → test x (getD ps i nowhere) ≡ getD ds i false) → Agrees x ps ds
 agrees-by x [] ds h = tt

@@ -7,22 +7,23 @@ use lib.ListN.{length, getD}
 use lib.IntN.{ℤ, pos, _+ℤ_}
 use lib.Dec.{ltb}
 use lib.Signed.{leZ}
+use Rattle.page_numbers.specs.Outcome.{refused}
 use Rattle.page_meaning.specs.Limits.{mostDecisions}
 use Rattle.page_walks.specs.Sizes.{Bounded}
 use Rattle.truth.specs.Cells.{bit}
 use Rattle.checker_rows.specs.declared.fields.Reading.{Reading}
-use Rattle.checker_rows.specs.declared.fields.Reading.the-variants.{All, Refused}
+use Rattle.checker_rows.specs.declared.fields.Reading.the-variants.{Good, Refused}
 use Rattle.page_sheets.specs.Rows.{fieldAt, valueAt}
-use Rattle.page_sheets.specs.Sheet.{Answer, refusal, checkFields}
+use Rattle.page_sheets.specs.Sheet.{Answer, checkFields}
 
 -- what the later fields come to, after those that were read
 abbrev pub afterFields : Reading → Answer → Answer
-afterFields All next = next
-afterFields (Refused n p) next = refusal n p
+afterFields Good next = next
+afterFields (Refused n p) next = refused n p
 
 -- where all are there, they stand within the sheet
 abbrev pub FieldsInside : ℕ → List ℕ → Reading → Type 0
-FieldsInside count sheet All = fieldAt count ≤ length sheet
+FieldsInside count sheet Good = fieldAt count ≤ length sheet
 FieldsInside count sheet (Refused n p) = Unit {0}
 
 -- what the reading of so many fields promises, whatever comes after them
@@ -36,12 +37,12 @@ seen sheet count zero = pos 0
 seen sheet count (suc j) = cond (ltb j count) (valueAt sheet j) (pos 0)
 
 -- every value is an i32
-pub record Small (x : List ℤ) : Type 0 where
+pub record AllInt32 (x : List ℤ) : Type 0 where
   pub each : (v : ℕ) → Bounded 2147483648 (getD x v (pos 0))
 
 pub record ValuesRead (sheet : List ℕ) (count : ℕ) (x : List ℤ) : Type 0 where
   pub values : (v : ℕ) → getD x v (pos 0) ≡ seen sheet count v
-  pub small : Small x
+  pub small : AllInt32 x
 
 -- place i at the values
 abbrev pub testAt : List ℤ → List ℕ → List ℕ → List ℤ → ℕ → Bool

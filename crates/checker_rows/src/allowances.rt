@@ -13,7 +13,7 @@ ghost use Rattle.page_meaning.specs.Condition.{holds, equal};
 ghost use Rattle.page_meaning.specs.Contents.{inRange};
 ghost use Rattle.question.specs.Held.{questionOf};
 ghost use Rattle.page_formulas.specs.Formulas.{among};
-ghost use Rattle.sights.specs.Seen.{Whole};
+ghost use Rattle.sights.specs.Sights.{Whole};
 ghost use Rattle.page_sheets.specs.Rows.{inColumn, fixed, matches, firstOk, fieldAt, valueAt, fieldOk};
 
 // a ≤ b and c ≤ d.

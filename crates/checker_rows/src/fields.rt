@@ -5,13 +5,13 @@ use question::types::Question;
 ghost use Prim.Native.Nat.{_+_, _≤_};
 ghost use lib.ListN.{length};
 ghost use Rattle.question.specs.Held.{questionOf};
-ghost use Rattle.sights.specs.Seen.{Whole};
+ghost use Rattle.sights.specs.Sights.{Whole};
 ghost use Rattle.page_sheets.specs.Rows.{fieldOk};
 ghost use Rattle.checker_rows.specs.NoSheet.{FieldsRead};
 
 // Every field is there and its value may stand in it; or the first that is not so.
 pub enum Reading {
-    All,
+    Good,
     Refused(u8, usize),
 }
 
@@ -32,5 +32,5 @@ pub fn fields(q: Question, i: usize, sheet: &[u8], count: usize) -> Reading
         }
         return Reading::Refused(15, at);
     }
-    Reading::All
+    Reading::Good
 }

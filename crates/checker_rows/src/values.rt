@@ -2,8 +2,8 @@
 use crate::layout::field_at;
 use limits::PLACES;
 use limits::VERTICES;
-use truth::knowing::Truth;
-use truth::knowing::known;
+use truth::truths::Truth;
+use truth::truths::known;
 ghost use Rattle.page_formulas.specs.Costs.{mostInstructions};
 ghost use mathlib.Core.Path.{_≡_};
 ghost use Prim.Native.Nat.{ℕ, _≤_, _<_};
@@ -17,7 +17,7 @@ ghost use Rattle.page_formulas.specs.Program.{Values, truth};
 ghost use Rattle.page_formulas.specs.Formulas.{Formula};
 ghost use Rattle.page_sheets.specs.Rows.{fieldAt};
 ghost use Rattle.program.specs.Lent.{Lent, Places};
-ghost use Rattle.checker_rows.specs.NoSheet.{ValuesRead, Small, Tested};
+ghost use Rattle.checker_rows.specs.NoSheet.{ValuesRead, AllInt32, Tested};
 
 // 0 at vertex 0, field j at vertex 1 + j.
 pub fn values(sheet: &[u8], count: usize) -> [i64; VERTICES]
@@ -36,7 +36,7 @@ pub fn values(sheet: &[u8], count: usize) -> [i64; VERTICES]
 
 // 1 where left − right ≤ most holds at the values.
 fn place_truth(values: [i64; VERTICES], left: u8, right: u8, most: i64) -> u8
-    requires { ⌜ Small values × (left < mostVertices) × (right < mostVertices) × Bounded least-weight most ⌝ }
+    requires { ⌜ AllInt32 values × (left < mostVertices) × (right < mostVertices) × Bounded least-weight most ⌝ }
     ensures { λ r. ⌜ bit r ≡ leZ (getD values left (pos 0)) (getD values right (pos 0) +ℤ most) ⌝ }
 {
     let a = values[left as usize];
@@ -50,7 +50,7 @@ fn place_truth(values: [i64; VERTICES], left: u8, right: u8, most: i64) -> u8
 
 // Every place of a formula: 1 where it holds.
 fn decisions(left: &[u8], right: &[u8], most: &[i64], values: [i64; VERTICES]) -> [u8; PLACES]
-    requires { ⌜ Places (now left) (now right) (now most) × Small values ⌝ }
+    requires { ⌜ Places (now left) (now right) (now most) × AllInt32 values ⌝ }
     ensures { λ r. ⌜ Tested values (now (left .entry)) (now (right .entry)) (now (most .entry)) r ⌝ }
 {
     let mut t: [u8; PLACES] = [0; PLACES];
@@ -67,7 +67,7 @@ fn decisions(left: &[u8], right: &[u8], most: &[i64], values: [i64; VERTICES]) -
 
 // Is the formula true at the values?
 pub fn met(kinds: &[u8], left: &[u8], right: &[u8], most: &[i64], values: [i64; VERTICES]) -> bool
-    requires { ⌜ (length (now kinds) ≤ mostInstructions) × Places (now left) (now right) (now most) × Small values ⌝ }
+    requires { ⌜ (length (now kinds) ≤ mostInstructions) × Places (now left) (now right) (now most) × AllInt32 values ⌝ }
     ensures { λ r. ⌜ ((F : Formula) (x : Values) → Lent (F .program) (now (kinds .entry)) (now (left .entry)) (now (right .entry)) (now (most .entry)) → ((v : ℕ) → getD values v (pos 0) ≡ x v) → r ≡ truth x (F .program)) ⌝ }
 {
     let t = decisions(left, right, most, values);

@@ -13,8 +13,8 @@ ghost use Rattle.page_walks.specs.Grid.{farN};
 ghost use Rattle.page_walks.specs.Sizes.{Sized, AllWithin};
 ghost use Rattle.page_formulas.specs.Formulas.{Formula};
 ghost use Rattle.checker_nodes.specs.Nodes.{outcomeOf};
-ghost use Rattle.checker_trees.specs.Checking.{checkLeft};
-ghost use Rattle.program.specs.Lent.{Shows, Lent, Lendable};
+ghost use Rattle.checker_trees.specs.Checks.{checkLeft};
+ghost use Rattle.program.specs.Lent.{Flagged, Lent, Lendable};
 
 // Where the check of a tree stands: its position in the part that is lent, the decisions so far, and how many places are left.
 pub struct Stage {
@@ -51,7 +51,7 @@ pub fn tree(
 ) -> Past
     requires { ⌜ Lendable (now kinds) (now left) (now right) (now most) (now shown) ⌝ }
     requires { ⌜ (stage .todo ≤ length (now left)) × Sized mostVertices (now g) × AllWithin farN mostVertices (now g) ⌝ }
-    ensures { λ r. ⌜ ((F : Formula) (base : ℕ) → Lent (F .program) (now (kinds .entry)) (now (left .entry)) (now (right .entry)) (now (most .entry)) → Shows (now (shown .entry)) (F .ranges) → outcomeOf base (now (part .entry)) r ≡ checkLeft F (stage .todo) (stage .truths) (now (g .entry)) (base + stage .at) (drop (stage .at) (now (part .entry)))) ⌝ }
+    ensures { λ r. ⌜ ((F : Formula) (base : ℕ) → Lent (F .program) (now (kinds .entry)) (now (left .entry)) (now (right .entry)) (now (most .entry)) → Flagged (now (shown .entry)) (F .ranges) → outcomeOf base (now (part .entry)) r ≡ checkLeft F (stage .todo) (stage .truths) (now (g .entry)) (base + stage .at) (drop (stage .at) (now (part .entry)))) ⌝ }
 {
     let truths = stage.truths;
     let at = stage.at;
@@ -80,7 +80,7 @@ pub fn tree(
     let first = below(stage, at + 1, decided, 1);
     let one = tree(kinds, left, right, most, shown, part, &yes, first);
     match one {
-        Past::At(p) => {
+        Past::Good(p) => {
             let no = decide(*g, a, b, k, false);
             let second = below(stage, p, decided, 0);
             tree(kinds, left, right, most, shown, part, &no, second)

@@ -12,10 +12,10 @@ ghost use mathlib.Core.Path.{_≡_};
 ghost use Prim.Native.Nat.{_≤_};
 ghost use lib.ListN.{length};
 ghost use Rattle.question.specs.Held.{Held, questionOf};
-ghost use Rattle.page_questions.specs.Accepted.{Accepted};
+ghost use Rattle.page_questions.specs.Guarantees.{Accepted};
 ghost use Rattle.page_formulas.specs.Formulas.{formulas};
 ghost use Rattle.page_sheets.specs.Sheet.{checkYes};
-ghost use Rattle.outcome.specs.Told.{judgedOf};
+ghost use Rattle.outcome.specs.Answers.{judgedOf};
 
 // Each tree's check is lent the part of the sheet after the last one's end.
 pub fn yes_sheet(q: Question, asked: u8, sheet: &[u8]) -> Judged
@@ -34,7 +34,7 @@ pub fn yes_sheet(q: Question, asked: u8, sheet: &[u8]) -> Judged
         let rest = &sheet[at..];
         let past = formula_tree(&kinds, &left, &right, &most, o, rest);
         match past {
-            Past::At(p) => {
+            Past::Good(p) => {
                 at += p;
                 i += 1;
             }
@@ -46,5 +46,5 @@ pub fn yes_sheet(q: Question, asked: u8, sheet: &[u8]) -> Judged
     if at < sheet.len() {
         return Judged::Refused(16, 0);
     }
-    Judged::Says(Verdict::Yes)
+    Judged::Good(Verdict::Yes)
 }

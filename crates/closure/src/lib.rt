@@ -7,7 +7,7 @@ ghost use Rattle.page_numbers.specs.Numbers.{minZ};
 ghost use Rattle.page_meaning.specs.Limits.{mostVertices};
 ghost use Rattle.page_walks.specs.Grid.{weight, farN};
 ghost use Rattle.page_walks.specs.Sizes.{filled, tabled, wide, Bounded, Sized, RowWithin, AllWithin};
-ghost use Rattle.page_walks.specs.Near.{relax, Triangle};
+ghost use Rattle.page_walks.specs.Nearness.{relax, Triangle};
 use grid::lesser;
 use limits::VERTICES;
 

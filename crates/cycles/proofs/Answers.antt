@@ -12,8 +12,8 @@ use lib.IntN.{ℤ, pos}
 use lib.Signed.{_<ℤ_}
 use Rattle.cycles.specs.declared.Cycle.{Cycle}
 use Rattle.page_walks.specs.Search.{best, greedy, start, fewest, walk, search}
-use Rattle.cycles.specs.Found.{cycleOf, countOf, Opens}
-use Rattle.page_walks.proofs.Searches.{start-ok, fewest-ok}
+use Rattle.cycles.specs.Found.{walkOf, countOf, Opens}
+use Rattle.page_walks.proofs.Search.{start-ok, fewest-ok}
 
 -- a walk of count vertices from s closes below zero, and the search answers with the greedy one
 pub record Closes (w : ℕ → ℕ → ℤ) (m count s : ℕ) : Type 0 where
@@ -54,6 +54,6 @@ module _ (w : ℕ → ℕ → ℤ) (m count s : ℕ) (o : Opens w m count s) whe
       }
 
 -- what stands for a list of at least one
-pub cycle-some : (c : Cycle) (count : ℕ) (l : List ℕ) → 0 < count → c .count ≡ count → take count (c .vertices) ≡ l → cycleOf c ≡ some l
-unfolding cycleOf
+pub cycle-some : (c : Cycle) (count : ℕ) (l : List ℕ) → 0 < count → c .count ≡ count → take count (c .vertices) ≡ l → walkOf c ≡ some l
+unfolding walkOf
 cycle-some c count l h d e = rw (d, ne-eqb count 0 (λ z. absurd (omega arith)), e)

@@ -10,7 +10,7 @@ use lib.IntN.{ℤ, pos}
 use lib.Signed.{ltZ}
 use Rattle.page_walks.specs.Search.{best, start, fewest}
 use Rattle.cycles.specs.Found.{countOf, Opens}
-use Rattle.page_walks.proofs.Bests.{first-at}
+use Rattle.page_walks.proofs.BestSums.{first-at}
 
 -- no start below s closes below zero with k + 1 edges
 pub record Clear (w : ℕ → ℕ → ℤ) (m k s : ℕ) : Type 0 where

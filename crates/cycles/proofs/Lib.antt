@@ -1,3 +1,3 @@
 pub mod Firsts
-pub mod Traced
+pub mod TracedLists
 pub mod Answers

@@ -11,8 +11,8 @@ use Rattle.cycles.specs.declared.Cycle.{Cycle}
 use Rattle.page_walks.specs.Search.{start, fewest}
 
 -- the list that a Cycle stands for: count 0 is none
-unfoldable pub cycleOf : Cycle → Option (List ℕ)
-cycleOf c = cond (eqb (c .count) 0) none (some (take (c .count) (c .vertices)))
+unfoldable pub walkOf : Cycle → Option (List ℕ)
+walkOf c = cond (eqb (c .count) 0) none (some (take (c .count) (c .vertices)))
 
 -- how many vertices the shortest negative closed walk has; 0 if there is none
 unfoldable pub countOf : (ℕ → ℕ → ℤ) → ℕ → ℕ

@@ -8,7 +8,7 @@ ghost use Rattle.page_meaning.specs.Limits.{mostVertices};
 ghost use Rattle.page_walks.specs.Grid.{weight, farN};
 ghost use Rattle.page_walks.specs.Sizes.{wide, Bounded, Sized, RowWithin, AllWithin};
 ghost use Rattle.page_walks.specs.Search.{first, best, greedy, search};
-ghost use Rattle.cycles.specs.Found.{cycleOf, Opens};
+ghost use Rattle.cycles.specs.Found.{walkOf, Opens};
 use limits::VERTICES;
 use sums::closing_sum;
 use sums::sums_back;
@@ -88,7 +88,7 @@ fn trace(g: &[[i64; VERTICES]; VERTICES], n: usize, start: usize, count: usize) 
 pub fn search(g: &[[i64; VERTICES]; VERTICES], n: usize) -> Cycle
     requires { ⌜ (0 < n) × (n ≤ mostVertices) ⌝ }
     requires { ⌜ Sized mostVertices (now g) × AllWithin farN n (now g) ⌝ }
-    ensures { λ r. ⌜ (cycleOf r ≡ search (weight (now (g .entry))) (n - 1)) × (r .count ≤ n) ⌝ }
+    ensures { λ r. ⌜ (walkOf r ≡ search (weight (now (g .entry))) (n - 1)) × (r .count ≤ n) ⌝ }
 {
     let opening = shortest(g, n);
     let count = opening.count;

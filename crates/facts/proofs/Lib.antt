@@ -1,2 +1,2 @@
-pub mod Starting
+pub mod RangeFacts
 pub mod Places

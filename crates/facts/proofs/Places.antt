@@ -7,16 +7,16 @@ use native.Mathlib.Omega.{arith}
 use lib.ListN.{length, getD, take}
 use lib.IntN.{ℤ, negsuc, negℤ}
 use Rattle.page_numbers.proofs.Bridge.{+up, +dn, neg-up, neg-dn}
-use Rattle.page_questions.specs.Accepted.{Every}
+use Rattle.page_questions.specs.Guarantees.{Every}
 use Rattle.page_formulas.specs.Formulas.{Formula}
 use Rattle.page_formulas.specs.Program.{Place, places}
 use Rattle.page_formulas.specs.Kinds.{nowhere}
-use Rattle.page_formulas.specs.Proper.{Proper, SmallPlace}
+use Rattle.page_formulas.specs.ProperFormulas.{Proper, SmallPlace}
 use Rattle.page_sheets.specs.Facts.{taken}
 use Rattle.page_sheets.proofs.Fit.{present-below}
 use Rattle.grid.specs.Edges.{Fact}
 use Rattle.program.specs.Lent.{placeAt, Coded}
-use Rattle.program.proofs.Lends.{lent-place, places-long}
+use Rattle.program.proofs.Loans.{lent-place, places-long}
 
 place-at : (ps : List Place) (P : Place → Type 0) → Every P ps → (k : ℕ) (d : Place) → k < length ps → P (getD ps k d)
 place-at [] P a k d h = absurd (omega arith)

@@ -8,7 +8,7 @@ ghost use Rattle.page_walks.specs.Grid.{farN};
 ghost use Rattle.page_meaning.specs.Limits.{mostVertices};
 ghost use Rattle.page_sheets.specs.Facts.{confine, decide};
 ghost use Rattle.program.specs.Compiled.{SmallSpans};
-ghost use Rattle.facts.specs.Starts.{Starts};
+ghost use Rattle.facts.specs.RangeFacts.{Starts};
 
 // How many vertices there may be beside 0.
 const OTHERS: usize = VERTICES - 1;

@@ -1,5 +1,5 @@
 pub mod Ranges
-pub mod Numbered
-pub mod Ready
-pub mod Counted
-pub mod Fines
+pub mod NumberedFormulas
+pub mod Readiness
+pub mod Counts
+pub mod ProperFormulas

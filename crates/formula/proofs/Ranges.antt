@@ -13,7 +13,7 @@ use Rattle.question.specs.declared.types.Question.{Question}
 use Rattle.question.specs.declared.types.Column.{Column}
 use Rattle.page_formulas.specs.Formulas.{among, firstRanges, hiddenRanges, bothRanges}
 use Rattle.program.specs.Compiled.{rangeIf}
-use Rattle.sights.specs.Seen.{noColumn, Whole}
+use Rattle.sights.specs.Sights.{noColumn, Whole}
 use Rattle.vertices.specs.Rows.{rowRanges, rangesBy}
 use Rattle.sights.proofs.Shapes.{columns-are, visible-is}
 

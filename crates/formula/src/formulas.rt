@@ -1,6 +1,6 @@
 // A formula of a question by its number.
 use formula_claims::claims::line_of;
-use formula_deeds::deeds::deed_of;
+use formula_contexts::contexts::context_of;
 use formula_lines::lines::line_at;
 use limits::INSTRUCTIONS;
 use limits::PLACES;
@@ -12,11 +12,11 @@ ghost use mathlib.Core.Path.{_≡_};
 ghost use Prim.Native.Nat.{_<_};
 ghost use lib.ListN.{length};
 ghost use Rattle.question.specs.Held.{questionOf, Held};
-ghost use Rattle.page_questions.specs.Accepted.{Accepted};
+ghost use Rattle.page_questions.specs.Guarantees.{Accepted};
 ghost use Rattle.page_formulas.specs.Formulas.{formulas};
 ghost use Rattle.program.specs.Built.{programOf, Long};
 ghost use Rattle.program.specs.Compiled.{Compiled, formulaOf};
-ghost use Rattle.formula_deeds.specs.Deeds.{Able};
+ghost use Rattle.formula_contexts.specs.Contexts.{Able};
 ghost use Rattle.formula_claims.specs.Claims.{begun};
 ghost use Rattle.formula.specs.Formulas.{Widths, formulaAt};
 
@@ -37,8 +37,8 @@ pub fn outline(
     let verb = change.verb;
     let line = line_at(verb, asked, i);
     let pairs = line.pairs;
-    let deed = deed_of(q, i, pairs);
-    let end = line_of(kinds, left, right, most, deed, line);
+    let context = context_of(q, i, pairs);
+    let end = line_of(kinds, left, right, most, context, line);
     let columns = q.columns;
     Outline {
         count: end.count,

@@ -17,14 +17,14 @@ use Rattle.page_formulas.specs.Program as P
 use Rattle.page_formulas.specs.Kinds.{kindsOf}
 use Rattle.page_formulas.proofs.Rooms.{AtMost, parts-more, first-room, next-room}
 use Rattle.program.specs.Built.{Long, Room, Builds, Means}
-use Rattle.program.specs.Held.{Program}
-use Rattle.program.proofs.Emits.{emits-means}
+use Rattle.program.specs.Formulas.{Program}
+use Rattle.program.proofs.Emission.{emits-means}
 use Rattle.program.proofs.Weights.{more, said, within, room-less, room-left}
 use Rattle.pieces.proofs.Pieces.{next}
 use Rattle.formula_lines.specs.Lines.{claimOf, partBy, partOf, noPart, partsOf, firstOf, restOf, lineBy, lineOf, Tabled}
-use Rattle.formula_deeds.specs.Deeds.{Under}
+use Rattle.formula_contexts.specs.Contexts.{Under}
 use Rattle.formula_claims.specs.Claims.{rowsOf, wordsOf}
-use Rattle.formula_deeds.specs.declared.deeds.Deed.{Deed}
+use Rattle.formula_contexts.specs.declared.contexts.Context.{Context}
 use Rattle.formula_lines.specs.declared.types.Line.{Line}
 use Rattle.formula_lines.specs.declared.types.Part.{Part}
 
@@ -64,7 +64,7 @@ module _ (x : Part) {p : Program} (room : Room p (partCost (partOf x) .instructi
   pub denied-room : {one : Program} {y : P.Program} → x .denied ≡ true → Builds p one (claimCost (claimOf (x .claim)) .instructions) (claimCost (claimOf (x .claim)) .places) y → Room one 1 0
   denied-room e b = room-left 1 0 (room-less (rw e at roomy) (omega arith) (omega arith)) b
 
-module _ (Q : Question) (d : Deed) (x : Part) {p one : Program} (b : Builds p one (claimCost (claimOf (x .claim)) .instructions) (claimCost (claimOf (x .claim)) .places) (claims (wordsOf Q d) (rowsOf Q (d .pairs)) (claimOf (x .claim)) (x .second))) where
+module _ (Q : Question) (d : Context) (x : Part) {p one : Program} (b : Builds p one (claimCost (claimOf (x .claim)) .instructions) (claimCost (claimOf (x .claim)) .places) (claims (wordsOf Q d) (rowsOf Q (d .pairs)) (claimOf (x .claim)) (x .second))) where
   affirmed : (c : claim.Claim) (second denied : Bool) → denied ≡ false → Adds p one (claimCost c) (claims (wordsOf Q d) (rowsOf Q (d .pairs)) c second) → Adds p one (partCost (partBy second denied c)) (readPart (wordsOf Q d) (rowsOf Q (d .pairs)) (partBy second denied c))
   affirmed c false false e b = subst (λ k. Adds p one k (claims (wordsOf Q d) (rowsOf Q (d .pairs)) c false)) (sym (either-row c false)) b
   affirmed c true false e b = subst (λ k. Adds p one k (claims (wordsOf Q d) (rowsOf Q (d .pairs)) c true)) (sym (either-row c true)) b
@@ -109,11 +109,11 @@ abbrev costOf : Line → ℕ → Cost
 costOf l i = readParts costs (λ i. tt) (firstOf l) (others l i)
 
 -- the first i parts are written
-abbrev pub Written : Question → Deed → Line → Program → Program → ℕ → Type 0
+abbrev pub Written : Question → Context → Line → Program → Program → ℕ → Type 0
 Written Q d l p now i = Adds p now (costOf l i) (readParts (wordsOf Q d) (rowsOf Q (d .pairs)) (firstOf l) (others l i))
 
 -- where a line was begun, and that its first i parts stand there
-pub record Started (l : Line) (d : Deed) (now : Program) (i : ℕ) : Type 0 where
+pub record Started (l : Line) (d : Context) (now : Program) (i : ℕ) : Type 0 where
   pub begin : Program
   pub long : Long begin
   pub count : begin .count ≡ 0
@@ -152,7 +152,7 @@ module _ (l : Line) (t : Tabled l (lineOf l)) where
     more-cost = ap (readParts costs (λ i. tt) (firstOf l)) one-more ∙ parts-more costs (λ i. tt) (firstOf l) (others l i) (partAt l i)
 
     -- a part, then the instruction that joins it
-    pub part-more : (Q : Question) (d : Deed) (p now one next : Program) → Written Q d l p now i → Builds now one (partCost (partAt l i) .instructions) (partCost (partAt l i) .places) (readPart (wordsOf Q d) (rowsOf Q (d .pairs)) (partAt l i)) → Builds one next 1 0 (P.andI ∷ []) → Written Q d l p next (i + 1)
+    pub part-more : (Q : Question) (d : Context) (p now one next : Program) → Written Q d l p now i → Builds now one (partCost (partAt l i) .instructions) (partCost (partAt l i) .places) (readPart (wordsOf Q d) (rowsOf Q (d .pairs)) (partAt l i)) → Builds one next 1 0 (P.andI ∷ []) → Written Q d l p next (i + 1)
     part-more Q d p now one next w b j =
         let two = more w (more b j) in
         let e = ap (readParts (wordsOf Q d) (rowsOf Q (d .pairs)) (firstOf l)) one-more ∙ parts-more (wordsOf Q d) (rowsOf Q (d .pairs)) (firstOf l) (others l i) (partAt l i) in
@@ -172,13 +172,13 @@ module _ (l : Line) (t : Tabled l (lineOf l)) where
           let c = first-room (firstOf l) (restOf l) in
           record { long = long; instructions = omega (arith, c .0, whole-cost .0, e); places = omega (arith, c .1, whole-cost .1, g) }
 
-      pub part-first : (Q : Question) (d : Deed) (now : Program) → Builds p now (partCost (partAt l 0) .instructions) (partCost (partAt l 0) .places) (readPart (wordsOf Q d) (rowsOf Q (d .pairs)) (partAt l 0)) → Written Q d l p now 1
+      pub part-first : (Q : Question) (d : Context) (now : Program) → Builds p now (partCost (partAt l 0) .instructions) (partCost (partAt l 0) .places) (readPart (wordsOf Q d) (rowsOf Q (d .pairs)) (partAt l 0)) → Written Q d l p now 1
       part-first Q d now b = subst (λ ps. Adds p now (readParts costs (λ i. tt) (firstOf l) ps) (readParts (wordsOf Q d) (rowsOf Q (d .pairs)) (firstOf l) ps)) (sym first-alone) b
 
-      pub parts-all : (Q : Question) (d : Deed) (now : Program) (i : ℕ) → l .count ≤ i → Written Q d l p now i → Means now (readParts (wordsOf Q d) (rowsOf Q (d .pairs)) (firstOf l) (restOf l))
+      pub parts-all : (Q : Question) (d : Context) (now : Program) (i : ℕ) → l .count ≤ i → Written Q d l p now i → Means now (readParts (wordsOf Q d) (rowsOf Q (d .pairs)) (firstOf l) (restOf l))
       parts-all Q d now i h w = subst (λ ps. Means now (readParts (wordsOf Q d) (rowsOf Q (d .pairs)) (firstOf l) (drop 1 ps))) (take-all i (partsOf l) (omega (arith, parts-length))) (emits-means (nothing p e g) (w .emits))
 
-      module _ (i : ℕ) (s : 1 ≤ i) (h : i < l .count) (Q : Question) (d : Deed) (now : Program) (w : Written Q d l p now i) where
+      module _ (i : ℕ) (s : 1 ≤ i) (h : i < l .count) (Q : Question) (d : Context) (now : Program) (w : Written Q d l p now i) where
         both-room : Room now (partCost (partAt l i) .instructions + 1) (partCost (partAt l i) .places)
         both-room =
             let c = next-room (firstOf l) (others l i) (partAt l i) (drop (i + 1) (partsOf l)) in

@@ -1,4 +1,4 @@
--- What the sights of a deed see is what the table's programs are made of.
+-- What the sights of a context see is what the table's programs are made of.
 use mathlib.Core.Path.{_≡_, refl, sym, ap, ap₂, _∙_, fun-ext}
 use mathlib.Core.Bool.{Bool, true, false, cond, _&&_, _||_}
 use mathlib.Core.List.{List, [], _∷_, _++_}
@@ -8,18 +8,18 @@ use borrow.Author.Tests.{eq-eqb, ne-eqb}
 use lib.ListN.{getD, replicate}
 use Rattle.page_meaning.specs.Contents.{Question, Mode, keep}
 use Rattle.page_meaning.specs.Claims.{modeAt}
-use Rattle.page_formulas.specs.Compile as C
+use Rattle.page_formulas.specs.Compilation as C
 use Rattle.page_formulas.specs.Program.{falseI}
 use Rattle.page_formulas.specs.Parts.{conditionProgram}
 use Rattle.page_formulas.specs.Formulas.{vertex, among, newTerm, after, boundedAll, differsOver}
 use Rattle.page_formulas.specs.Formulas as F
 use Rattle.question.specs.Held.{conditionOf}
-use Rattle.sights.specs.Seen.{flagsOf, shownFrom, visibleOf, rowOf, modesOf, modeIn, sightOf, Usable}
-use Rattle.pieces.specs.Partway.{tableFrom}
+use Rattle.sights.specs.Sights.{flagsOf, shownFrom, visibleOf, rowOf, modesOf, modeIn, sightOf, Usable}
+use Rattle.pieces.specs.Pieces.{tableFrom}
 use Rattle.sights.specs.declared.types.Sight.{Sight}
-use Rattle.formula_deeds.specs.Deeds.{viewOf, Under, Legible}
+use Rattle.formula_contexts.specs.Contexts.{viewOf, Under, Legible}
 use Rattle.formula_claims.specs.Claims.{rowsOf, wordsOf}
-use Rattle.formula_deeds.specs.declared.deeds.Deed.{Deed}
+use Rattle.formula_contexts.specs.declared.contexts.Context.{Context}
 
 -- ---- the visible columns
 
@@ -41,7 +41,7 @@ among-shown (false ∷ bs) k (suc i) j e = among-shown bs (suc k) i j (omega ari
 
 -- ---- rows
 
-module _ (Q : Question) (d : Deed) (u : Under Q d) where
+module _ (Q : Question) (d : Context) (u : Under Q d) where
   flag-is : (i : ℕ) → getD (flagsOf (d .sight)) i false ≡ among (Q .visible) i
   flag-is i = sym (ap (λ vs. among vs i) (u .visible) ∙ among-shown (flagsOf (d .sight)) 0 i i (omega arith))
 
@@ -100,6 +100,6 @@ module _ (Q : Question) (d : Deed) (u : Under Q d) where
 
 -- ---- they can be read
 
-pub view-usable : (d : Deed) → Legible d → (second moved : Bool) → Usable (viewOf (d .sight) second moved)
+pub view-usable : (d : Context) → Legible d → (second moved : Bool) → Usable (viewOf (d .sight) second moved)
 view-usable d l second true = let u = l .usable in record { inside = u .inside; few = u .few; long = u .long; flags = u .flags; reads = rw (l .moved) at (u .reads) }
 view-usable d l second false = let u = l .usable in record { inside = u .inside; few = u .few; long = u .long; flags = u .flags; reads = tt }

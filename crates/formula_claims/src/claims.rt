@@ -1,6 +1,6 @@
 // The claims of the table (FORMAT 5.2), their parts and lines, written one after another.
-use formula_deeds::deeds::Deed;
-use formula_deeds::views::view;
+use formula_contexts::contexts::Context;
+use formula_contexts::views::view;
 use formula_lines::types::Claim;
 use formula_lines::types::Line;
 use formula_lines::types::Part;
@@ -9,7 +9,7 @@ use limits::PLACES;
 use pieces::conditions::condition;
 use pieces::differences::differs;
 use pieces::ranges::bounded_all;
-use program::build::emit;
+use program::instructions::emit;
 use program::types::End;
 use program::types::Joint;
 ghost use Rattle.page_meaning.specs.Contents as meant;
@@ -17,7 +17,7 @@ ghost use Rattle.page_meaning.specs.Claims.{staying, claims, readPart, readPart
 ghost use Rattle.page_formulas.specs.Costs.{movingCost, claimCost, partCost, Fits};
 ghost use Rattle.program.specs.Built.{programOf, Long, Room, Builds, Means};
 ghost use Rattle.formula_lines.specs.Lines.{claimOf, partOf, firstOf, restOf, lineOf, Tabled};
-ghost use Rattle.formula_deeds.specs.Deeds.{Under, Legible};
+ghost use Rattle.formula_contexts.specs.Contexts.{Under, Legible};
 ghost use Rattle.formula_claims.specs.Claims.{rowsOf, wordsOf, begun};
 
 // M
@@ -27,7 +27,7 @@ pub fn moves(
     right: &mut [u8; PLACES],
     most: &mut [i64; PLACES],
     at: End,
-    d: Deed,
+    d: Context,
     second: bool,
 ) -> End
     requires { ⌜ Room (programOf (now kinds) (now left) (now right) (now most) at) (movingCost .instructions) (movingCost .places) × Legible d ⌝ }
@@ -49,7 +49,7 @@ pub fn stays(
     right: &mut [u8; PLACES],
     most: &mut [i64; PLACES],
     at: End,
-    d: Deed,
+    d: Context,
     second: bool,
 ) -> End
     requires { ⌜ Room (programOf (now kinds) (now left) (now right) (now most) at) (claimCost staying .instructions) (claimCost staying .places) × Legible d ⌝ }
@@ -71,7 +71,7 @@ pub fn claim_of(
     right: &mut [u8; PLACES],
     most: &mut [i64; PLACES],
     at: End,
-    d: Deed,
+    d: Context,
     c: Claim,
     second: bool,
 ) -> End
@@ -111,7 +111,7 @@ pub fn part_of(
     right: &mut [u8; PLACES],
     most: &mut [i64; PLACES],
     at: End,
-    d: Deed,
+    d: Context,
     p: Part,
 ) -> End
     requires { ⌜ Room (programOf (now kinds) (now left) (now right) (now most) at) (partCost (partOf p) .instructions) (partCost (partOf p) .places) × Legible d ⌝ }
@@ -131,7 +131,7 @@ pub fn line_of(
     left: &mut [u8; PLACES],
     right: &mut [u8; PLACES],
     most: &mut [i64; PLACES],
-    d: Deed,
+    d: Context,
     l: Line,
 ) -> End
     requires { ⌜ Long (programOf (now kinds) (now left) (now right) (now most) begun) × Legible d × Tabled l (lineOf l) × Fits (lineOf l) ⌝ }

@@ -1,1 +1,1 @@
-pub mod Tabled
+pub mod TableLines

@@ -1,3 +1,3 @@
-pub mod Tightens
+pub mod Tightening
 pub mod Stacks
-pub mod Turns
+pub mod AskedInstructions

@@ -9,7 +9,7 @@ use borrow.Author.Tests.{lt-ltb, le-ltb}
 use lib.ListN.{length, getD, set}
 use lib.Seq.{getD-set-same, getD-set-other}
 use Rattle.page_formulas.specs.Costs.{mostInstructions}
-use Rattle.program_tree.specs.Nodes.{Laid}
+use Rattle.program_tree.specs.Nodes.{LaidRows}
 use Rattle.goals.specs.Goals.{goal, coded, atOf, wantOf, goalOf, stackOf, total, Waiting}
 use Rattle.program_tree.specs.Nodes.{Tree}
 
@@ -59,7 +59,7 @@ unfolding stackOf
 stack-none goals h e = rw e
 
 -- no more goals than they have instructions
-pub height : (t : Tree) → Laid t → (goals : List ℕ) (h : ℕ) → Waiting t (stackOf goals h) → h ≤ total t (stackOf goals h)
+pub height : (t : Tree) → LaidRows t → (goals : List ℕ) (h : ℕ) → Waiting t (stackOf goals h) → h ≤ total t (stackOf goals h)
 unfolding stackOf
 height t l goals zero w = omega arith
 height t l goals (suc h) w = omega (arith, l .made (atOf (getD goals h 0)) (w .0 .in-tree) .some, height t l goals h (w .1))

@@ -14,8 +14,8 @@ use Rattle.page_formulas.specs.Program.{Values, Program, truth}
 use Rattle.page_formulas.specs.Vertices.{InRange}
 use Rattle.page_formulas.specs.Formulas.{Formula}
 use Rattle.page_formulas.specs.Costs.{mostInstructions}
-use Rattle.goals.specs.Closed.{Tight}
-use Rattle.program_tree.specs.Nodes.{Tree, kindAt, sizeAt, Laid, Describes}
+use Rattle.goals.specs.Closures.{Tight}
+use Rattle.program_tree.specs.Nodes.{Tree, kindAt, sizeAt, LaidRows, Describes}
 
 -- a part of the formula, by its instruction, that is wanted true or false
 pub record Goal : Type 0 where
@@ -49,8 +49,8 @@ Each P [] = Unit {0}
 Each P (g ∷ gs) = P g × Each P gs
 
 -- each is as wanted
-abbrev pub Met : (ℕ → Bool) → List Goal → Type 0
-Met v = Each (λ g. v (g .at) ≡ g .want)
+abbrev pub Granted : (ℕ → Bool) → List Goal → Type 0
+Granted v = Each (λ g. v (g .at) ≡ g .want)
 
 -- vertex v's of the values handed back
 abbrev pub held : List ℤ → Values
@@ -110,11 +110,11 @@ module _ (t : Tree) where
   pub record Solves (v : Values → ℕ → Bool) (near : Grid) (gs : List Goal) (x : Values) : Type 0 where
     pub at-zero : x 0 ≡ pos 0
     pub sat : Sat (weight near) (suc (t .last)) x
-    pub met : Met (v x) gs
+    pub met : Granted (v x) gs
 
   -- facts, and goals that wait
   pub record Standing (near : Grid) (gs : List Goal) : Type 0 where
-    pub laid : Laid t
+    pub laid : LaidRows t
     pub table : Sized mostVertices near
     pub tight : Tight (suc (t .last)) near
     pub waiting : Waiting gs

@@ -1,2 +1,2 @@
-pub mod Closed
+pub mod Closures
 pub mod Goals

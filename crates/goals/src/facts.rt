@@ -7,7 +7,7 @@ ghost use Rattle.page_meaning.specs.Limits.{mostVertices};
 ghost use Rattle.page_walks.specs.Sizes.{Sized};
 ghost use Rattle.page_sheets.specs.Facts.{taken};
 ghost use Rattle.grid.specs.Edges.{Fact};
-ghost use Rattle.goals.specs.Closed.{Tight, Enters};
+ghost use Rattle.goals.specs.Closures.{Tight, Enters};
 ghost use Rattle.program_tree.specs.Nodes.{Placed, placeOf};
 
 // Does an edge of weight k contradict the facts? If not, it is one of them now.

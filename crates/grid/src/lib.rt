@@ -1,7 +1,7 @@
 // Facts between vertices: a grid of edge weights by value.
 use limits::VERTICES;
 ghost use mathlib.Core.Path.{_≡_};
-ghost use Prim.Native.Nat.{_-_, _<_, _≤_};
+ghost use Prim.Native.Nat.{_<_, _≤_};
 ghost use lib.ListN.{length};
 ghost use Rattle.page_walks.specs.Walk.{Below, closed};
 ghost use Rattle.page_numbers.specs.Numbers.{minZ};

@@ -1,1 +1,1 @@
-pub mod Fixes
+pub mod FixedValues

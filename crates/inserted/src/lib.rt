@@ -11,9 +11,9 @@ ghost use Prim.Native.Nat.{ℕ, _≤_, _<_};
 ghost use lib.ListN.{getD, take, replicate};
 ghost use Rattle.page_meaning.specs.Limits.{mostColumns, mostRows};
 ghost use Rattle.question.specs.Held.{rowOf, questionOf};
-ghost use Rattle.sights.specs.Seen.{Whole};
+ghost use Rattle.sights.specs.Sights.{Whole};
 ghost use Rattle.page_sheets.specs.Rows.{fixed};
-ghost use Rattle.inserted.specs.Fixed.{optionOf};
+ghost use Rattle.inserted.specs.FixedValues.{optionOf};
 
 // Any value may stand there, or this one only.
 pub enum Fixed {

@@ -6,12 +6,12 @@ pub enum Verdict {
 
 // Of a verdict asked for, or a sheet checked: the verdict, or the number that says no and its place.
 pub enum Judged {
-    Says(Verdict),
+    Good(Verdict),
     Refused(u8, usize),
 }
 
 // Of a sheet asked for: the verdict, and how many bytes of the room the sheet takes; or number and place.
 pub enum Written {
-    Sheet(Verdict, usize),
+    Good(Verdict, usize),
     Refused(u8, usize),
 }

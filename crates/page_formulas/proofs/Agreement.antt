@@ -11,12 +11,12 @@ use Rattle.page_meaning.specs.Claims.{Part, Line, single, double, modeAt, readP
 use Rattle.page_meaning.specs.Trouble.{one, two}
 use Rattle.page_meaning.specs.Trouble as trouble
 use Rattle.page_formulas.specs.Program.{Values, run, truth}
-use Rattle.page_formulas.specs.Compile.{Sight}
+use Rattle.page_formulas.specs.Compilation.{Sight}
 use Rattle.page_formulas.specs.Parts.{conditionProgram}
 use Rattle.page_formulas.specs.Formulas.{Formula, firstSight, secondSight, oneRow, twoRows, boundedAll, programs, formula, irrelevance, computability, formulas}
-use Rattle.page_formulas.proofs.Compiles.{run-append, Sees}
+use Rattle.page_formulas.proofs.Compilation.{run-append, Sees}
 use Rattle.page_formulas.proofs.Pieces.{Pushes, pushes-truth, pushes-and, pushes-or, pushes-not, pushes-condition}
-use Rattle.page_formulas.proofs.Usable.{Exists, Doable, Usable, deeds-doable}
+use Rattle.page_formulas.proofs.Usability.{Exists, Doable, Usable, contexts-doable}
 use Rattle.page_formulas.proofs.Readings.{Match, match-parts, Matched, match-formulas}
 use Rattle.page_formulas.proofs.Sights.{after-sees, boundedAll-is, differsOver-is}
 
@@ -85,7 +85,7 @@ module _ (q : Question) (k : Usable q) where
   formulas-agree asked = go (eqb asked 1)
     where
       all : (b : Bool) → AgreeAll q (formulasBy (trouble.formula q) q (q .change) b) (formulasBy (formula q) q (q .change) b)
-      all = match-formulas (Agrees q) (trouble.formula q) (formula q) (Doable q) (λ d ms u l f. line-agrees d ms u l) q (q .change) (deeds-doable q (q .change) (k .change))
+      all = match-formulas (Agrees q) (trouble.formula q) (formula q) (Doable q) (λ d ms u l f. line-agrees d ms u l) q (q .change) (contexts-doable q (q .change) (k .change))
 
       go : (b : Bool) → AgreeAll q (cond b (trouble.irrelevance q (q .change)) (trouble.computability q (q .change))) (cond b (irrelevance q (q .change)) (computability q (q .change)))
       go true = all true

@@ -8,7 +8,7 @@ use lib.IntN.{ℤ, pos, negsuc}
 use Rattle.page_meaning.specs.Condition.{Condition, compare, both, equal, atLeast, constant, column}
 use Rattle.page_meaning.specs.Contents.{Question, Change, insert, modify, Mode, keep, shift, Range}
 use Rattle.page_formulas.specs.Program.{Instr, place, andI}
-use Rattle.page_formulas.specs.Compile.{compile}
+use Rattle.page_formulas.specs.Compilation.{compile}
 use Rattle.page_formulas.specs.Formulas.{firstSight, secondSight, among, after, boundedAll, programs, formulas}
 
 abbrev upTo : ℕ → Range

@@ -8,10 +8,10 @@ use lib.Dec.{T}
 use Rattle.page_meaning.specs.Condition.{Op, less, atMost, equal, atLeast, more, unequal, compare, both, either, negate, Condition}
 use Rattle.page_meaning.specs.Contents.{Table, Mode, keep, become, shift}
 use Rattle.page_meaning.specs.Claims.{kept}
-use Rattle.page_questions.specs.Accepted.{leavesOne, ConditionOk}
+use Rattle.page_questions.specs.Guarantees.{leavesOne, ConditionOk}
 use Rattle.page_formulas.specs.Program.{Program, Instr, Term, orI, falseI}
 use Rattle.page_formulas.specs.Kinds.{kindOf, kindsOf}
-use Rattle.page_formulas.specs.Compile.{Sight, comparison, constantTerm, plus, sideTerm, compile}
+use Rattle.page_formulas.specs.Compilation.{Sight, comparison, constantTerm, plus, sideTerm, compile}
 use Rattle.page_formulas.specs.Parts.{joined, denied, conditionProgram}
 use Rattle.page_formulas.specs.Formulas.{bounded, boundedAll, differsNew, differsOver}
 use Rattle.page_formulas.specs.Form.{arity, Rises}

@@ -9,11 +9,11 @@ use lib.IntN.{pos}
 use Rattle.page_meaning.specs.Condition.{compare, both, either, negate, Condition, Row, holds, sideOf}
 use Rattle.page_meaning.specs.Condition as C
 use Rattle.page_meaning.specs.WellFormed.{Uses}
-use Rattle.page_questions.specs.Accepted.{leavesOne, Shaped}
+use Rattle.page_questions.specs.Guarantees.{leavesOne, Shaped}
 use Rattle.page_formulas.specs.Program.{Values, andI, orI, notI, Program, run, top, truth}
-use Rattle.page_formulas.specs.Compile.{Sight}
+use Rattle.page_formulas.specs.Compilation.{Sight}
 use Rattle.page_formulas.specs.Parts.{joined, denied, conditionProgram}
-use Rattle.page_formulas.proofs.Compiles.{run-append, Sees, compile-is}
+use Rattle.page_formulas.proofs.Compilation.{run-append, Sees, compile-is}
 
 pub record Pushes (ρ : Values) (p : Program) (b : Bool) : Type 0 where
   pub runs : (st : List Bool) → run ρ p st ≡ b ∷ st

@@ -7,9 +7,9 @@ use native.Mathlib.Omega.{arith}
 use Rattle.page_meaning.specs.Condition.{Condition}
 use Rattle.page_meaning.specs.Contents.{Question, Change, insert, delete, modify, Mode, become, Values, Table}
 use Rattle.page_meaning.specs.Claims.{Claim, listed, relisted, chosen, moving, staying, differing, Part, of1, of2, not1, not2, Line, insertion, deletion, modification, Reading, claims, readPart, readParts, unlessAlone, formulasBy}
-use Rattle.page_questions.specs.Accepted.{Every}
+use Rattle.page_questions.specs.Guarantees.{Every}
 use Rattle.page_formulas.specs.Costs.{Fits}
-use Rattle.page_formulas.proofs.Usable.{Deeds}
+use Rattle.page_formulas.proofs.Usability.{Contexts}
 
 -- rows as they are, rows after the change or not, and what is said of them
 module _ {W X A B : Type 0} (Old New : W → X → Type 0) (R : A → B → Type 0) where
@@ -75,7 +75,7 @@ module _ {A B : Type 0} (R : A → B → Type 0) (f : Condition → List Mode �
   match-lines d ms p [] t = tt
   match-lines d ms p (l ∷ ls) t = (h d ms p l (t .0), match-lines d ms p ls (t .1))
 
-  match-rows : (new : List Values) → Deeds P (insert new) → Matched R (map (λ n. f [] (map become n) insertion) new) (map (λ n. g [] (map become n) insertion) new)
+  match-rows : (new : List Values) → Contexts P (insert new) → Matched R (map (λ n. f [] (map become n) insertion) new) (map (λ n. g [] (map become n) insertion) new)
   match-rows [] p = tt
   match-rows (n ∷ new) p = (h [] (map become n) (p n (inl refl)) insertion insertion-fits, match-rows new (λ m i. p m (inr i)))
 
@@ -84,7 +84,7 @@ module _ {A B : Type 0} (R : A → B → Type 0) (f : Condition → List Mode �
   match-unless [] (u ∷ us) l bs m = m
   match-unless (t ∷ ts) us l bs m = m
 
-  pub match-formulas : (q : Question) (ch : Change) → Deeds P ch → (asked : Bool) → Matched R (formulasBy f q ch asked) (formulasBy g q ch asked)
+  pub match-formulas : (q : Question) (ch : Change) → Contexts P ch → (asked : Bool) → Matched R (formulasBy f q ch asked) (formulasBy g q ch asked)
   match-formulas q (insert new) p true = match-rows new p
   match-formulas q (insert new) p false = match-unless (q .front) (q .back) _ _ (match-rows new p)
   match-formulas q (delete d) p asked = match-lines d [] p (deletion asked) (deletion-fits asked)
@@ -92,7 +92,7 @@ module _ {A B : Type 0} (R : A → B → Type 0) (f : Condition → List Mode �
 
 -- the same of one reading: the other is the lines themselves
 pub every-formula : {A : Type 0} (R : A → Type 0) (f : Condition → List Mode → Line → A) (P : Condition → List Mode → Type 0)
-    → ((d : Condition) (ms : List Mode) → P d ms → (l : Line) → Fits l → R (f d ms l)) → (q : Question) (ch : Change) → Deeds P ch → (asked : Bool) → Every R (formulasBy f q ch asked)
+    → ((d : Condition) (ms : List Mode) → P d ms → (l : Line) → Fits l → R (f d ms l)) → (q : Question) (ch : Change) → Contexts P ch → (asked : Bool) → Every R (formulasBy f q ch asked)
 every-formula {A} R f P h q ch p asked = go (formulasBy f q ch asked) (formulasBy (λ d ms l. l) q ch asked) (match-formulas (λ a l. R a) f (λ d ms l. l) P h q ch p asked)
   where
     go : (l : List A) (bs : List Line) → Matched (λ a b. R a) l bs → Every R l

@@ -13,13 +13,13 @@ use Rattle.page_numbers.proofs.Bridge.{ints, +law}
 use Rattle.page_meaning.specs.Contents.{Question, Range, columns, look, fits, inRange, part}
 use Rattle.page_meaning.specs.Contents as M
 use Rattle.page_meaning.proofs.Truth.{and-l, and-r, and-in, or-l, or-r}
-use Rattle.page_meaning.proofs.Moving.{fits-length}
-use Rattle.page_questions.specs.Accepted.{Every}
+use Rattle.page_meaning.proofs.MovedRows.{fits-length}
+use Rattle.page_questions.specs.Guarantees.{Every}
 use Rattle.page_formulas.specs.Program.{Values, value}
-use Rattle.page_formulas.specs.Vertices.{Ranges, Within, InRange}
+use Rattle.page_formulas.specs.Vertices.{Ranges, Inside, InRange}
 use Rattle.page_formulas.specs.Formulas.{vertex, firstSight, among, secondSight, firstRanges, hiddenRanges, bothRanges, assign, tabulate, rowOf1, rowOf2}
-use Rattle.page_formulas.proofs.Compiles.{Sees}
-use Rattle.page_formulas.proofs.Usable.{Exists}
+use Rattle.page_formulas.proofs.Compilation.{Sees}
+use Rattle.page_formulas.proofs.Usability.{Exists}
 
 -- ---- ranges, position by position
 
@@ -27,14 +27,14 @@ abbrev pub Ranged : Option Range → ℤ → Type 0
 Ranged none x = Unit {0}
 Ranged (some g) x = (g .lo ≤ℤ x) × (x ≤ℤ g .hi)
 
-pub within-at : (ρ : Values) (v : ℕ) (rs : Ranges) → Within ρ v rs → (i : ℕ) → Ranged (getD rs i none) (ρ (v + i))
+pub within-at : (ρ : Values) (v : ℕ) (rs : Ranges) → Inside ρ v rs → (i : ℕ) → Ranged (getD rs i none) (ρ (v + i))
 within-at ρ v [] w i = tt
 within-at ρ v (none ∷ rs) w zero = tt
 within-at ρ v (some g ∷ rs) w zero = let e : v + 0 ≡ v = omega arith in rw e (w .0, w .1)
 within-at ρ v (none ∷ rs) w (suc i) = subst (λ j. Ranged (getD rs i none) (ρ j)) (omega arith) (within-at ρ (suc v) rs w i)
 within-at ρ v (some g ∷ rs) w (suc i) = subst (λ j. Ranged (getD rs i none) (ρ j)) (omega arith) (within-at ρ (suc v) rs (w .2) i)
 
-pub within-by : (ρ : Values) (v : ℕ) (rs : Ranges) → ((i : ℕ) → Ranged (getD rs i none) (ρ (v + i))) → Within ρ v rs
+pub within-by : (ρ : Values) (v : ℕ) (rs : Ranges) → ((i : ℕ) → Ranged (getD rs i none) (ρ (v + i))) → Inside ρ v rs
 within-by ρ v [] h = tt
 within-by ρ v (none ∷ rs) h = within-by ρ (suc v) rs (λ i. subst (λ j. Ranged (getD rs i none) (ρ j)) (omega arith) (h (suc i)))
 within-by ρ v (some g ∷ rs) h = let e : v + 0 ≡ v = omega arith in let b = rw e at (h 0) in
@@ -100,7 +100,7 @@ module _ (q : Question) where
       go false = base
 
   pub assign-one : (u : M.Values) → T (fits (columns q) u) → InRange (firstRanges (columns q)) (assign u [])
-  assign-one u t = record { at-zero = refl; within = subst (Within (assign u []) 1) (append-nil (firstRanges (columns q))) (within-by (assign u []) 1 (firstRanges (columns q) ++ []) (λ i. let e : 1 + i ≡ suc i = omega arith in rw e (fits-at (columns q) u t [] [] (λ j. tt) i))) }
+  assign-one u t = record { at-zero = refl; within = subst (Inside (assign u []) 1) (append-nil (firstRanges (columns q))) (within-by (assign u []) 1 (firstRanges (columns q) ++ []) (λ i. let e : 1 + i ≡ suc i = omega arith in rw e (fits-at (columns q) u t [] [] (λ j. tt) i))) }
 
   pub assign-two : (u w : M.Values) → T (fits (columns q) u) → T (fits (columns q) w) → InRange (bothRanges q) (assign u w)
   assign-two u w t s = record { at-zero = refl; within = within-by (assign u w) 1 (bothRanges q) (λ i. let e : 1 + i ≡ suc i = omega arith in rw e (fits-at (columns q) u t (hiddenRanges (q .visible) 0 (columns q)) w (hidden-in (columns q) w s (q .visible)) i)) }

@@ -10,12 +10,12 @@ use Rattle.page_meaning.specs.Contents.{Question, Mode, keep, become, shift, Ra
 use Rattle.page_meaning.specs.WellFormed.{Reads}
 use Rattle.page_meaning.specs.Claims.{modeAt, kept}
 use Rattle.page_meaning.specs.Trouble.{moved, newFits, differOver}
-use Rattle.page_questions.specs.Accepted.{Every}
+use Rattle.page_questions.specs.Guarantees.{Every}
 use Rattle.page_formulas.specs.Program.{Values, Term, value, Program, andI, orI, run}
-use Rattle.page_formulas.specs.Compile.{Sight, comparison, constantTerm, plus}
+use Rattle.page_formulas.specs.Compilation.{Sight, comparison, constantTerm, plus}
 use Rattle.page_formulas.specs.Formulas.{newTerm, after, bounded, boundedAll, differsOver}
-use Rattle.page_formulas.proofs.Compiles.{run-append, comparison-is, constant-is, plus-is, Sees}
-use Rattle.page_formulas.proofs.Usable.{reads-at}
+use Rattle.page_formulas.proofs.Compilation.{run-append, comparison-is, constant-is, plus-is, Sees}
+use Rattle.page_formulas.proofs.Usability.{reads-at}
 
 module _ (P : ℕ → Type 0) (ρ : Values) (z : ρ 0 ≡ pos 0) where
   module _ (σ : Sight) (r : Row) (sees : Sees P ρ σ r) where

@@ -15,14 +15,14 @@ use Rattle.page_meaning.specs.Contents.{Range, Table, Mode, keep, become, shift
 use Rattle.page_meaning.specs.Claims.{kept}
 use Rattle.page_meaning.specs.WellFormed.{SideUses, Uses, Reads}
 use Rattle.page_questions.specs.Reader.{counted}
-use Rattle.page_questions.specs.Accepted.{Every, RangeOk, ConstantOk, SideOk, TokenOk, ConditionOk, ModeOk}
+use Rattle.page_questions.specs.Guarantees.{Every, RangeOk, ConstantOk, SideOk, TokenOk, ConditionOk, ModeOk}
 use Rattle.page_formulas.specs.Program.{Term, Place, Instr, place, andI, orI, notI, trueI, falseI, Program, places}
-use Rattle.page_formulas.specs.Compile.{Sight, atMostPlace, belowPlace, comparison, constantTerm, plus, sideTerm, compile}
+use Rattle.page_formulas.specs.Compilation.{Sight, atMostPlace, belowPlace, comparison, constantTerm, plus, sideTerm, compile}
 use Rattle.page_formulas.specs.Parts.{joined, denied, conditionProgram}
 use Rattle.page_formulas.specs.Vertices.{Ranges, present}
 use Rattle.page_formulas.specs.Formulas.{bounded, boundedAll, differsNew, differsOver}
 use Rattle.page_formulas.specs.Costs.{conditionCost}
-use Rattle.page_formulas.specs.Proper.{billion, large, highest, SmallPlace}
+use Rattle.page_formulas.specs.ProperFormulas.{billion, large, highest, SmallPlace}
 
 -- ---- programs: small places, at most n of them, at most m instructions
 

@@ -11,7 +11,7 @@ use Rattle.page_meaning.specs.Contents.{Question, Change, Mode, keep, become, s
 use Rattle.page_meaning.specs.Contents as M
 use Rattle.page_meaning.specs.Claims.{Line, single, double, modeAt, kept, Reading, readParts, formulasBy}
 use Rattle.page_formulas.specs.Program.{Program, Term, Values, andI, orI, falseI}
-use Rattle.page_formulas.specs.Compile.{Sight, comparison, constantTerm, plus}
+use Rattle.page_formulas.specs.Compilation.{Sight, comparison, constantTerm, plus}
 use Rattle.page_formulas.specs.Parts.{joined, denied, conditionProgram}
 use Rattle.page_formulas.specs.Vertices.{Ranges}
 

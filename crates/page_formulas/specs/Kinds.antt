@@ -4,7 +4,7 @@ use mathlib.Core.Bool.{Bool}
 use mathlib.Core.List.{List, [], _∷_}
 use lib.IntN.{pos}
 use Rattle.page_formulas.specs.Program.{Place, Instr, place, andI, orI, notI, trueI, falseI, Program, two, one}
-use Rattle.page_formulas.specs.Known.{Three, fails, passes, and3, or3, not3, next, later, top3}
+use Rattle.page_formulas.specs.Knowledge.{Three, fails, passes, and3, or3, not3, next, later, top3}
 
 -- which instruction it is, by a number: all that the three-valued run needs to know of it
 abbrev pub kindOf : Instr → ℕ

@@ -1,12 +1,12 @@
 pub mod Program
-pub mod Compile
+pub mod Compilation
 pub mod Parts
 pub mod Vertices
 pub mod Formulas
 pub mod Costs
-pub mod Known
+pub mod Knowledge
 pub mod Kinds
-pub mod Said
+pub mod Truths
 pub mod Form
 pub mod Postfix
-pub mod Proper
+pub mod ProperFormulas

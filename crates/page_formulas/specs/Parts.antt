@@ -2,7 +2,7 @@
 use mathlib.Core.List.{[], _∷_, _++_}
 use Rattle.page_meaning.specs.Condition.{Condition}
 use Rattle.page_formulas.specs.Program.{Program, Instr, notI, trueI}
-use Rattle.page_formulas.specs.Compile.{Sight, compile}
+use Rattle.page_formulas.specs.Compilation.{Sight, compile}
 
 -- by and, or by or
 abbrev pub joined : Instr → Program → Program → Program

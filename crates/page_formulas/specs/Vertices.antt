@@ -23,11 +23,11 @@ present rs zero = true
 present rs (suc v) = isSome (getD rs v none)
 
 -- the ranges are those of vertices v, v + 1, ..
-abbrev pub Within : Values → ℕ → Ranges → Type 0
-Within ρ v [] = Unit {0}
-Within ρ v (none ∷ rs) = Within ρ (suc v) rs
-Within ρ v (some r ∷ rs) = (r .lo ≤ℤ ρ v) × (ρ v ≤ℤ r .hi) × Within ρ (suc v) rs
+abbrev pub Inside : Values → ℕ → Ranges → Type 0
+Inside ρ v [] = Unit {0}
+Inside ρ v (none ∷ rs) = Inside ρ (suc v) rs
+Inside ρ v (some r ∷ rs) = (r .lo ≤ℤ ρ v) × (ρ v ≤ℤ r .hi) × Inside ρ (suc v) rs
 
 pub record InRange (rs : Ranges) (ρ : Values) : Type 0 where
   pub at-zero : ρ 0 ≡ pos 0
-  pub within : Within ρ 1 rs
+  pub within : Inside ρ 1 rs

@@ -12,11 +12,11 @@ use Rattle.page_meaning.specs.Contents.{Values, _∈_, each, look, inRan
 use Rattle.page_meaning.specs.Trouble.{moved, newFits}
 use Rattle.page_meaning.proofs.Words.{C, S, moves}
 use Rattle.page_meaning.specs.Witness.{cut, alone}
-use Rattle.page_meaning.specs.Exactly.{Relevant}
+use Rattle.page_meaning.specs.Verdicts.{Relevant}
 use Rattle.page_meaning.specs.Examples.{keys, vals, aboveV, inserting, holding, hidden, lower, tooLow, tooHigh, picked, five, shortcut}
 use Rattle.page_meaning.proofs.Truth.{or-l, or-r, parts}
 use Rattle.page_meaning.proofs.Tables.{only}
-use Rattle.page_meaning.proofs.Agree.{relevant, irrelevant-agrees, computable-agrees}
+use Rattle.page_meaning.proofs.Agreement.{relevant, irrelevant-agrees, computable-agrees}
 
 -- ---- an insert shown beside a row of the changed table: the list does not change
 

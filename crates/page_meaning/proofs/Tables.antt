@@ -8,7 +8,7 @@ use lib.Dec.{T}
 use Rattle.page_meaning.specs.Contents.{Question, Values, Table, Range, _∈_, each, columnsOf, columns, fits, inRange, first, Contents, TablesFit, Valid, Joined, Full, values, Within}
 use Rattle.page_meaning.specs.Witness.{cut, alone, none, AtMostOne}
 use Rattle.page_meaning.proofs.Truth.{and-in, parts}
-use Rattle.page_meaning.proofs.Moving.{Wide, fits-length}
+use Rattle.page_meaning.proofs.MovedRows.{Wide, fits-length}
 
 -- ---- membership
 

@@ -5,5 +5,5 @@ pub mod Claims
 pub mod WellFormed
 pub mod Trouble
 pub mod Witness
-pub mod Exactly
+pub mod Verdicts
 pub mod Examples

@@ -15,8 +15,8 @@ use Rattle.page_meaning.specs.Limits.{mostRows}
 use Rattle.page_meaning.specs.Contents.{Range, Values, Mode, keep, become, shift, Change, insert, delete, modify, fits, inRange, TableFits}
 use Rattle.page_meaning.specs.WellFormed.{Uses, Reads}
 use Rattle.page_questions.specs.Reader.{At, many, byte, int, upTo, none, constantAt, conditionAt, valueAt, rowAt, insertAt, deleteAt, noColumnAt, modeAt, modifyAt, changeAt}
-use Rattle.page_questions.specs.Accepted.{Every, ConstantOk, ConditionOk, ModeOk}
-use Rattle.page_questions.proofs.Holds.{Holds, Finds, holds-so, Between, Inside, then-holds, cond-holds, byte-holds, int-holds, many-holds}
+use Rattle.page_questions.specs.Guarantees.{Every, ConstantOk, ConditionOk, ModeOk}
+use Rattle.page_questions.proofs.Invariants.{Holds, Finds, holds-so, Between, Inside, then-holds, cond-holds, byte-holds, int-holds, many-holds}
 use Rattle.page_questions.proofs.Conditions.{every-snoc, constant-holds, Sound, condition-holds}
 
 -- ---- inserted rows; gs are the changed table's ranges

@@ -13,9 +13,9 @@ use Rattle.page_meaning.specs.Limits.{mostTokens, mostComparisons}
 use Rattle.page_meaning.specs.Condition.{Condition, Token, compare, both, either, negate, constant, column}
 use Rattle.page_meaning.specs.WellFormed.{SideUses, TokenUses, Uses}
 use Rattle.page_questions.specs.Reader.{At, many, byte, upTo, largest, none, constantAt, rightAt, sideOf, comparisonAt, tokenAt, needs, after, counted, height, comparisons, finish, finished, conditionAt}
-use Rattle.page_questions.specs.Accepted.{Every, ConstantOk, SideOk, TokenOk, leavesOne, Shaped, ConditionOk}
+use Rattle.page_questions.specs.Guarantees.{Every, ConstantOk, SideOk, TokenOk, leavesOne, Shaped, ConditionOk}
 use Rattle.page_questions.proofs.Counts.{counted-le}
-use Rattle.page_questions.proofs.Holds.{Holds, Finds, holds-so, Between, Inside, then-holds, cond-holds, byte-holds, int-holds, many-holds}
+use Rattle.page_questions.proofs.Invariants.{Holds, Finds, holds-so, Between, Inside, then-holds, cond-holds, byte-holds, int-holds, many-holds}
 
 pub every-snoc : {A : Type 0} (P : A → Type 0) (l : List A) (a : A) → Every P l → P a → Every P (l ++ (a ∷ []))
 every-snoc P [] a h x = (x, tt)

@@ -4,12 +4,13 @@ use mathlib.Core.Path.{_≡_, refl}
 use mathlib.Core.List.{List, [], _∷_, _++_}
 use lib.IntN.{pos}
 use lib.ListN.{take, set}
+use Rattle.page_numbers.specs.Outcome.{refused}
 use Rattle.page_numbers.specs.Bytes.{int32, le32}
 use Rattle.page_meaning.specs.Limits.{mostColumns}
 use Rattle.page_meaning.specs.Condition.{compare, equal, atLeast, both}
 use Rattle.page_meaning.specs.Condition as C
 use Rattle.page_questions.specs.Layout.{total, visibleFrom}
-use Rattle.page_questions.specs.Reader.{bad, many, byte, int, columnAt, comparisonAt, tokenAt, conditionAt, rowAt, insertAt, ending, fromChange, fromCondition, fromVisible, fromColumns, fromWidths, fromChanged, fromKind, fromTables, fromVersion, readOf}
+use Rattle.page_questions.specs.Reader.{many, byte, int, columnAt, comparisonAt, tokenAt, conditionAt, rowAt, insertAt, ending, fromChange, fromCondition, fromVisible, fromColumns, fromWidths, fromChanged, fromKind, fromTables, fromVersion, readOf}
 use Rattle.page_questions.specs.Fields.{mark, version, tableCount, changeKind, changedTable, columnCount, lo, visible, hi, someVisible, tokenCount, token, op, constant, seventh, operands, column, rightColumn, finish, rowCount, inserted, end, sizes, followed, runs, conditionFields, insertFields, questionFields, fieldsOf}
 
 -- insert (3,9) into KEY, in 73 bytes
@@ -45,6 +46,6 @@ unfolding questionFields followed runs sizes conditionFields insertFields total 
 fields = refl
 
 -- FORMAT 9.4: the last byte cut off; one byte added; 31 for V
-pub refusals : (readOf (take 72 caseA) ≡ bad 1 69) × (readOf (caseA ++ (0 ∷ [])) ≡ bad 9 73) × (readOf (set caseA 69 31) ≡ bad 5 69)
+pub refusals : (readOf (take 72 caseA) ≡ refused 1 69) × (readOf (caseA ++ (0 ∷ [])) ≡ refused 9 73) × (readOf (set caseA 69 31) ≡ refused 5 69)
 unfolding readOf fromVersion fromTables fromKind fromChanged fromWidths fromColumns fromVisible fromCondition fromChange ending insertAt rowAt conditionAt tokenAt comparisonAt columnAt int byte many total visibleFrom int32 le32
 refusals = (refl, refl, refl)

@@ -9,7 +9,7 @@ use lib.Seq.{take-add, take-all, drop-drop, length-take-le}
 use Rattle.page_meaning.specs.Condition.{Condition}
 use Rattle.page_meaning.specs.Contents.{Range, Change, columns, columnsOf, first}
 use Rattle.page_questions.specs.Layout.{Column, rangesOf, total, firstOf, widthOf, tablesOf, tableOf, visibleFrom, questionFrom}
-use Rattle.page_questions.specs.Accepted.{Every, Ascending}
+use Rattle.page_questions.specs.Guarantees.{Every, Ascending}
 
 pub side-by-side : (ws : List ℕ) (gs : List Range) → columnsOf (tablesOf ws gs) ≡ take (total ws) gs
 unfolding tablesOf total

@@ -6,7 +6,8 @@ use native.Mathlib.Omega.{arith}
 use native.Mathlib.Numerals.{add-one}
 use lib.ListN.{length, take, set, length-set}
 use lib.Seq.{take-suc-set}
-use Rattle.page_questions.specs.Reader.{Outcome, bad, At, found, andThen, many}
+use Rattle.page_numbers.specs.Outcome.{Outcome, refused}
+use Rattle.page_questions.specs.Reader.{At, found, andThen, many}
 
 -- i of n elements stand in the array xs of the given size, each meaning what g says, and the next one starts at q
 pub record Going {A B : Type 0} (f : List B → ℕ → Outcome (At B)) (g : A → B) (size n : ℕ) (whole : Outcome (At (List B))) (xs : List A) (i q : ℕ) : Type 0 where
@@ -47,7 +48,7 @@ module _ {A B : Type 0} (f : List B → ℕ → Outcome (At B)) (g : A → B) (s
         }
 
     -- it was refused
-    pub going-bad : (m r : ℕ) → bad m r ≡ f (map g (take i xs)) q → bad m r ≡ whole
+    pub going-bad : (m r : ℕ) → refused m r ≡ f (map g (take i xs)) q → refused m r ≡ whole
     going-bad m r e = ap (λ o. andThen o (λ b p. many f (n - (i + 1)) (map g (take i xs) ++ (b ∷ [])) p)) e ∙ opened
 
   -- all were found

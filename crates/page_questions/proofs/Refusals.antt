@@ -8,12 +8,13 @@ use Prim.Native.Nat.{ℕ, zero, suc, _+_, _≤_, _<_}
 use native.Mathlib.Omega.{arith}
 use borrow.Author.Tests.{leb-true, leb-false, le-leb, lt-leb}
 use lib.ListN.{length}
+use Rattle.page_numbers.specs.Outcome.{good, refused}
 use Rattle.page_meaning.specs.Contents.{Question}
-use Rattle.page_questions.specs.Reader.{good, bad, readOf}
+use Rattle.page_questions.specs.Reader.{readOf}
 use Rattle.page_questions.specs.Fields.{Field, mark, version, tableCount, changeKind, changedTable, columnCount, lo, visible, hi, someVisible, tokenCount, token, op, constant, seventh, operands, column, rightColumn, finish, rowCount, inserted, mode, noColumn, zeroConstant, end, size, sizes, fieldsOf, questionIn}
 use Rattle.page_questions.specs.Faults.{asSaid, numberOf, AllSaid, Fault, Reached, FirstFault}
-use Rattle.page_questions.proofs.Judges.{whole, judge}
-use Rattle.page_questions.proofs.QuestionJudges.{reads-fields}
+use Rattle.page_questions.proofs.StepFaults.{whole, judge}
+use Rattle.page_questions.proofs.QuestionFaults.{reads-fields}
 
 -- ---- a field's bytes are there, where the field starts within the bytes
 
@@ -47,7 +48,7 @@ record FaultIn (s : List ℕ) (p : ℕ) (fs : List Field) (n r : ℕ) : Type 0 w
   fault : Fault s field r n
 
 module _ {A : Type 0} (s : List ℕ) where
-  fault-found : (fs : List Field) (a : A) (p n r : ℕ) → p ≤ length s → judge s p fs a ≡ bad n r → FaultIn s p fs n r
+  fault-found : (fs : List Field) (a : A) (p n r : ℕ) → p ≤ length s → judge s p fs a ≡ refused n r → FaultIn s p fs n r
   unfolding judge sizes
   fault-found [] a p n r l e = absurd (let z : _≡_ {A = ℕ} 0 1 = cc in omega arith)
   fault-found (f ∷ fs) a p n r l e =
@@ -69,8 +70,8 @@ module _ {A : Type 0} (s : List ℕ) where
           }
 
       go : (w t : Bool) → whole s p (size f) ≡ w → asSaid s f p ≡ t
-          → cond w (cond t (judge s (p + size f) fs a) (bad (numberOf f) p)) (bad 1 p) ≡ bad n r
-          → (p + size f ≤ length s → judge s (p + size f) fs a ≡ bad n r → FaultIn s (p + size f) fs n r)
+          → cond w (cond t (judge s (p + size f) fs a) (refused (numberOf f) p)) (refused 1 p) ≡ refused n r
+          → (p + size f ≤ length s → judge s (p + size f) fs a ≡ refused n r → FaultIn s (p + size f) fs n r)
           → FaultIn s p (f ∷ fs) n r
       go true true u v e rec = later (whole-true s p l (size f) u) v (rec (whole-true s p l (size f) u) e)
       go true false u v e rec =
@@ -83,28 +84,28 @@ module _ {A : Type 0} (s : List ℕ) where
           here same (subst (λ q. Fault s f q n) same (inl (whole-false s p l (size f) u, sym number)))
 
   fault-judged : (before : List Field) (f : Field) (after : List Field) (a : A) (p n r : ℕ) → p ≤ length s → AllSaid s p before → r ≡ p + sizes before
-      → Fault s f r n → judge s p (before ++ (f ∷ after)) a ≡ bad n r
+      → Fault s f r n → judge s p (before ++ (f ∷ after)) a ≡ refused n r
   unfolding judge sizes
   fault-judged [] f after a p n r l h e x =
       let same : p ≡ r = omega arith in
       elim (subst (λ q. Fault s f q n) (sym same) x) [
-        | inl y ↦ ap (λ w. cond w (cond (asSaid s f p) (judge s (p + size f) after a) (bad (numberOf f) p)) (bad 1 p)) (false-whole s p l (size f) (y .0))
-            ∙ ap (λ m. bad m p) (sym (y .1)) ∙ ap (bad n) same
-        | inr y ↦ ap (λ w. cond w (cond (asSaid s f p) (judge s (p + size f) after a) (bad (numberOf f) p)) (bad 1 p)) (true-whole s p l (size f) (y .0))
-            ∙ ap (λ t. cond t (judge s (p + size f) after a) (bad (numberOf f) p)) (y .1)
-            ∙ ap (λ m. bad m p) (sym (y .2)) ∙ ap (bad n) same
+        | inl y ↦ ap (λ w. cond w (cond (asSaid s f p) (judge s (p + size f) after a) (refused (numberOf f) p)) (refused 1 p)) (false-whole s p l (size f) (y .0))
+            ∙ ap (λ m. refused m p) (sym (y .1)) ∙ ap (refused n) same
+        | inr y ↦ ap (λ w. cond w (cond (asSaid s f p) (judge s (p + size f) after a) (refused (numberOf f) p)) (refused 1 p)) (true-whole s p l (size f) (y .0))
+            ∙ ap (λ t. cond t (judge s (p + size f) after a) (refused (numberOf f) p)) (y .1)
+            ∙ ap (λ m. refused m p) (sym (y .2)) ∙ ap (refused n) same
       ]
   fault-judged (g ∷ gs) f after a p n r l h e x =
-      ap (λ w. cond w (cond (asSaid s g p) (judge s (p + size g) (gs ++ (f ∷ after)) a) (bad (numberOf g) p)) (bad 1 p)) (true-whole s p l (size g) (h .0))
-      ∙ ap (λ t. cond t (judge s (p + size g) (gs ++ (f ∷ after)) a) (bad (numberOf g) p)) (h .1)
+      ap (λ w. cond w (cond (asSaid s g p) (judge s (p + size g) (gs ++ (f ∷ after)) a) (refused (numberOf g) p)) (refused 1 p)) (true-whole s p l (size g) (h .0))
+      ∙ ap (λ t. cond t (judge s (p + size g) (gs ++ (f ∷ after)) a) (refused (numberOf g) p)) (h .1)
       ∙ fault-judged gs f after a (p + size g) n r (h .0) (h .2) (omega arith) x
 
   said-judged : (fs : List Field) (a : A) (p : ℕ) → p ≤ length s → AllSaid s p fs → judge s p fs a ≡ good a
   unfolding judge
   said-judged [] a p l h = refl
   said-judged (f ∷ fs) a p l h =
-      ap (λ w. cond w (cond (asSaid s f p) (judge s (p + size f) fs a) (bad (numberOf f) p)) (bad 1 p)) (true-whole s p l (size f) (h .0))
-      ∙ ap (λ t. cond t (judge s (p + size f) fs a) (bad (numberOf f) p)) (h .1)
+      ap (λ w. cond w (cond (asSaid s f p) (judge s (p + size f) fs a) (refused (numberOf f) p)) (refused 1 p)) (true-whole s p l (size f) (h .0))
+      ∙ ap (λ t. cond t (judge s (p + size f) fs a) (refused (numberOf f) p)) (h .1)
       ∙ said-judged fs a (p + size f) (h .0) (h .2)
 
   judged-said : (fs : List Field) (a b : A) (p : ℕ) → p ≤ length s → judge s p fs a ≡ good b → AllSaid s p fs × (a ≡ b)
@@ -113,7 +114,7 @@ module _ {A : Type 0} (s : List ℕ) where
   judged-said (f ∷ fs) a b p l e = go (whole s p (size f)) (asSaid s f p) refl refl e (λ h. judged-said fs a b (p + size f) h)
     where
       go : (w t : Bool) → whole s p (size f) ≡ w → asSaid s f p ≡ t
-          → cond w (cond t (judge s (p + size f) fs a) (bad (numberOf f) p)) (bad 1 p) ≡ good b
+          → cond w (cond t (judge s (p + size f) fs a) (refused (numberOf f) p)) (refused 1 p) ≡ good b
           → (p + size f ≤ length s → judge s (p + size f) fs a ≡ good b → AllSaid s (p + size f) fs × (a ≡ b))
           → AllSaid s p (f ∷ fs) × (a ≡ b)
       go true true u v e rec =
@@ -159,15 +160,15 @@ numbered end = (omega arith, omega arith)
 -- ---- the theorems
 
 -- FORMAT 4.3: each number, at each place, exactly when
-pub refused : (s : List ℕ) (n p : ℕ) → (readOf s ≡ bad n p) ↔ FirstFault s n p
-refused s n p = (forth, back)
+pub refused-first : (s : List ℕ) (n p : ℕ) → (readOf s ≡ refused n p) ↔ FirstFault s n p
+refused-first s n p = (forth, back)
   where
-    forth : readOf s ≡ bad n p → FirstFault s n p
+    forth : readOf s ≡ refused n p → FirstFault s n p
     forth e =
         let x = fault-found s (fieldsOf s) (questionIn s) 0 n p (omega arith) (sym (reads-fields s) ∙ e) in
         (x .field, record { before = x .before; after = x .after; order = x .order; sound = x .sound; start = omega (arith, x .start) }, x .fault)
 
-    back : FirstFault s n p → readOf s ≡ bad n p
+    back : FirstFault s n p → readOf s ≡ refused n p
     back h =
         let x = h .1 in
         reads-fields s
@@ -185,34 +186,34 @@ taken s q = (forth, back)
     back h = reads-fields s ∙ said-judged s (fieldsOf s) (questionIn s) 0 (omega arith) (h .0) ∙ ap good (h .1)
 
 -- FORMAT 4.3, 1: a field that goes past the end
-pub refused-short : (s : List ℕ) (p : ℕ) → (readOf s ≡ bad 1 p) ↔ ((f : Field) × Reached s f p × (length s < p + size f))
+pub refused-short : (s : List ℕ) (p : ℕ) → (readOf s ≡ refused 1 p) ↔ ((f : Field) × Reached s f p × (length s < p + size f))
 refused-short s p = (forth, back)
   where
-    forth : readOf s ≡ bad 1 p → (f : Field) × Reached s f p × (length s < p + size f)
+    forth : readOf s ≡ refused 1 p → (f : Field) × Reached s f p × (length s < p + size f)
     forth e =
-        let x = refused s 1 p .0 e in
+        let x = refused-first s 1 p .0 e in
         (x .0, x .1, elim (x .2) [ inl y ↦ y .0 | inr y ↦ absurd (omega (arith, numbered (x .0), y .2)) ])
 
-    back : (f : Field) × Reached s f p × (length s < p + size f) → readOf s ≡ bad 1 p
-    back x = refused s 1 p .1 (x .0, x .1, inl (x .2, refl))
+    back : (f : Field) × Reached s f p × (length s < p + size f) → readOf s ≡ refused 1 p
+    back x = refused-first s 1 p .1 (x .0, x .1, inl (x .2, refl))
 
 -- FORMAT 4.3, the other rows: a field is there and isn't as said, and n is its number
 pub refused-value : (s : List ℕ) (n p : ℕ) → 2 ≤ n
-    → (readOf s ≡ bad n p) ↔ ((f : Field) × Reached s f p × (p + size f ≤ length s) × (asSaid s f p ≡ false) × (n ≡ numberOf f))
+    → (readOf s ≡ refused n p) ↔ ((f : Field) × Reached s f p × (p + size f ≤ length s) × (asSaid s f p ≡ false) × (n ≡ numberOf f))
 refused-value s n p l = (forth, back)
   where
-    forth : readOf s ≡ bad n p → (f : Field) × Reached s f p × (p + size f ≤ length s) × (asSaid s f p ≡ false) × (n ≡ numberOf f)
+    forth : readOf s ≡ refused n p → (f : Field) × Reached s f p × (p + size f ≤ length s) × (asSaid s f p ≡ false) × (n ≡ numberOf f)
     forth e =
-        let x = refused s n p .0 e in
+        let x = refused-first s n p .0 e in
         elim (x .2) [ inl y ↦ absurd (omega (arith, y .1)) | inr y ↦ (x .0, x .1, y .0, y .1, y .2) ]
 
-    back : (f : Field) × Reached s f p × (p + size f ≤ length s) × (asSaid s f p ≡ false) × (n ≡ numberOf f) → readOf s ≡ bad n p
-    back x = refused s n p .1 (x .0, x .1, inr (x .2, x .3, x .4))
+    back : (f : Field) × Reached s f p × (p + size f ≤ length s) × (asSaid s f p ≡ false) × (n ≡ numberOf f) → readOf s ≡ refused n p
+    back x = refused-first s n p .1 (x .0, x .1, inr (x .2, x .3, x .4))
 
 -- no other number is given, and no place past the end
-pub refused-bounds : (s : List ℕ) (n p : ℕ) → readOf s ≡ bad n p → (1 ≤ n) × (n ≤ 9) × (p ≤ length s)
+pub refused-bounds : (s : List ℕ) (n p : ℕ) → readOf s ≡ refused n p → (1 ≤ n) × (n ≤ 9) × (p ≤ length s)
 refused-bounds s n p e =
-    let x = refused s n p .0 e in
+    let x = refused-first s n p .0 e in
     let fits = said-fits s (x .1 .before) 0 (omega arith) (x .1 .sound) in
     elim (x .2) [
       | inl y ↦ (omega (arith, y .1), omega (arith, y .1), omega (arith, fits, x .1 .start))

@@ -9,14 +9,15 @@ use lib.Dec.{ltb, leb, eqb}
 use lib.ListN.{length, getD, take}
 use lib.IntN.{ℤ, negℤ}
 use lib.Signed.{leZ}
+use Rattle.page_numbers.specs.Outcome.{Outcome, good, refused}
 use Rattle.page_numbers.specs.Bytes.{le32, int32}
 use Rattle.page_meaning.specs.Limits.{mostTokens, mostComparisons}
 use Rattle.page_meaning.specs.Condition.{Condition, Token, both, either, negate}
 use Rattle.page_questions.specs.Layout.{total, widthOf}
-use Rattle.page_questions.specs.Longest.{longestCondition, longest}
-use Rattle.page_questions.specs.Reader.{Outcome, good, bad, At, found, andThen, many, byte, int, upTo, none, farthest, largest, constantAt, columnAt, rightAt, comparisonAt, needs, counted, comparisons, height, tokenAt, finish, finished, conditionAt}
-use Rattle.page_questions.specs.Accepted.{Every}
-use Rattle.page_questions.proofs.Holds.{Holds, holds-so, cond-holds, Between}
+use Rattle.page_questions.specs.Lengths.{longestCondition, longest}
+use Rattle.page_questions.specs.Reader.{At, found, andThen, many, byte, int, upTo, none, farthest, largest, constantAt, columnAt, rightAt, comparisonAt, needs, counted, comparisons, height, tokenAt, finish, finished, conditionAt}
+use Rattle.page_questions.specs.Guarantees.{Every}
+use Rattle.page_questions.proofs.Invariants.{Holds, holds-so, cond-holds, Between}
 
 -- ---- two readings that come to the same, and what holds of it
 
@@ -29,7 +30,7 @@ twin-then P Q o o′ f f′ t k = subst (λ x. Twin Q (andThen o f) (andThen x f
   where
     go : (o : Outcome (At _)) → Holds P o → Twin Q (andThen o f) (andThen o f′)
     go (good a) h = k a h
-    go (bad n p) h = (refl, tt)
+    go (refused n p) h = (refl, tt)
 
 pub twin-cond : {A : Type 0} (P : A → Type 0) (b : Bool) (x x′ y y′ : Outcome A) → (b ≡ true → Twin P x x′) → (b ≡ false → Twin P y y′) → Twin P (cond b x y) (cond b x′ y′)
 twin-cond P true x x′ y y′ f g = f refl
@@ -82,7 +83,7 @@ module _ (s t : List ℕ) (same : Same s t) where
   pub byte-twin : (n low high p : ℕ) → p ≤ longest → Twin (λ a. Between low high (a .value) × (a .next ≡ p + 1)) (byte s n low high p) (byte t n low high p)
   unfolding byte
   byte-twin n low high p l = (
-    ap₂ (λ b v. cond b (cond (leb low v && ltb v high) (found v (p + 1)) (bad n p)) (bad 1 p)) (same .more p l) (same .entry p l),
+    ap₂ (λ b v. cond b (cond (leb low v && ltb v high) (found v (p + 1)) (refused n p)) (refused 1 p)) (same .more p l) (same .entry p l),
     cond-holds (λ a. Between low high (a .value) × (a .next ≡ p + 1)) (ltb p (length s)) _ _
         (λ e. cond-holds (λ a. Between low high (a .value) × (a .next ≡ p + 1)) (leb low (getD s p 0) && ltb (getD s p 0) high) _ _ (λ d. (inside d, refl)) (λ d. tt))
         (λ e. tt),
@@ -102,7 +103,7 @@ module _ (s t : List ℕ) (same : Same s t) where
   pub int-twin : (n : ℕ) (lo hi : ℤ) (p : ℕ) → p + 4 ≤ suc longest → Twin (λ a. a .next ≡ p + 4) (int s n lo hi p) (int t n lo hi p)
   unfolding int
   int-twin n lo hi p l = (
-    ap₂ (λ b v. cond b (cond (leZ lo v && leZ v hi) (found v (p + 4)) (bad n p)) (bad 1 p)) (same .whole (p + 4) l) (int-same p l),
+    ap₂ (λ b v. cond b (cond (leZ lo v && leZ v hi) (found v (p + 4)) (refused n p)) (refused 1 p)) (same .whole (p + 4) l) (int-same p l),
     cond-holds (λ a. a .next ≡ p + 4) (leb (p + 4) (length s)) _ _
         (λ e. cond-holds (λ a. a .next ≡ p + 4) (leZ lo (int32 s p) && leZ (int32 s p) hi) _ _ (λ d. refl) (λ d. tt))
         (λ e. tt),

@@ -2,5 +2,5 @@ pub mod Layout
 pub mod Reader
 pub mod Fields
 pub mod Faults
-pub mod Accepted
-pub mod Longest
+pub mod Guarantees
+pub mod Lengths

@@ -7,6 +7,7 @@ use lib.Dec.{ltb, leb, eqb}
 use lib.ListN.{length, getD}
 use lib.IntN.{ℤ, pos, negℤ}
 use lib.Signed.{leZ}
+use Rattle.page_numbers.specs.Outcome.{Outcome, good, refused}
 use Rattle.page_numbers.specs.Bytes.{int32}
 use Rattle.page_meaning.specs.Limits.{mostTables, mostColumns, mostTokens, mostComparisons, mostRows}
 use Rattle.page_meaning.specs.Condition.{Op, less, atMost, equal, atLeast, more, unequal, Side, constant, column, Token, compare, both, either, negate, Condition}
@@ -14,11 +15,6 @@ use Rattle.page_meaning.specs.Contents.{Range, Mode, keep, become, shift, Value
 use Rattle.page_questions.specs.Layout.{Column, rangesOf, total, firstOf, tableOf, visibleFrom, questionFrom}
 
 -- ---- answers
-
--- what was asked for, or a refusal: its number and its place
-pub data Outcome (A : Type 0) : Type 0 where
-  good : A → Outcome A
-  bad : ℕ → ℕ → Outcome A
 
 abbrev pub Read : Type 0
 Read = Outcome Question
@@ -34,7 +30,7 @@ found a p = good (record { value = a; next = p })
 -- what follows is read only where nothing was refused before
 abbrev pub andThen : {A B : Type 0} → Outcome (At A) → (A → ℕ → Outcome B) → Outcome B
 andThen (good a) f = f (a .value) (a .next)
-andThen (bad n p) f = bad n p
+andThen (refused n p) f = refused n p
 
 -- k fields of one sort, each read with those before it in hand
 unfoldable pub many : {A : Type 0} → (List A → ℕ → Outcome (At A)) → ℕ → List A → ℕ → Outcome (At (List A))
@@ -47,15 +43,15 @@ many f (suc k) done p = andThen (f done p) (λ a q. many f k (done ++ (a ∷ [])
 unfoldable pub byte : List ℕ → ℕ → ℕ → ℕ → ℕ → Outcome (At ℕ)
 byte s n low high p =
     cond (ltb p (length s))
-    (cond (leb low (getD s p 0) && ltb (getD s p 0) high) (found (getD s p 0) (p + 1)) (bad n p))
-    (bad 1 p)
+    (cond (leb low (getD s p 0) && ltb (getD s p 0) high) (found (getD s p 0) (p + 1)) (refused n p))
+    (refused 1 p)
 
 -- an i32 at p, lo to hi, else the refusal n
 unfoldable pub int : List ℕ → ℕ → ℤ → ℤ → ℕ → Outcome (At ℤ)
 int s n lo hi p =
     cond (leb (p + 4) (length s))
-    (cond (leZ lo (int32 s p) && leZ (int32 s p) hi) (found (int32 s p) (p + 4)) (bad n p))
-    (bad 1 p)
+    (cond (leZ lo (int32 s p) && leZ (int32 s p) hi) (found (int32 s p) (p + 4)) (refused n p))
+    (refused 1 p)
 
 -- the first number above the greatest allowed
 abbrev pub upTo : ℕ → ℕ
@@ -138,12 +134,12 @@ comparisons ts = foldl counted 0 ts
 
 -- FORMAT 4.3, 6: t takes n truths, and there must be as many
 abbrev pub needs : Condition → ℕ → Token → ℕ → Outcome (At Token)
-needs ts n t p = cond (leb n (height ts)) (found t (p + 1)) (bad 6 p)
+needs ts n t p = cond (leb n (height ts)) (found t (p + 1)) (refused 6 p)
 
 -- the token of number t at p, after the tokens ts. FORMAT 4.3, 4: a seventh comparison is refused at its token byte
 abbrev pub tokenOf : List ℕ → ℕ → ℕ → Condition → ℕ → ℕ → Outcome (At Token)
 tokenOf s low high ts p t =
-    cond (eqb t 1) (cond (ltb (comparisons ts) mostComparisons) (comparisonAt s low high (p + 1)) (bad 4 p))
+    cond (eqb t 1) (cond (ltb (comparisons ts) mostComparisons) (comparisonAt s low high (p + 1)) (refused 4 p))
     (cond (eqb t 2) (needs ts 2 both p)
     (cond (eqb t 3) (needs ts 2 either p)
     (needs ts 1 negate p)))
@@ -159,7 +155,7 @@ finished (t ∷ ts) = eqb (height (t ∷ ts)) 1
 
 -- FORMAT 4.2: tested after the last token, with the next offset
 abbrev pub finish : Condition → ℕ → Outcome (At Condition)
-finish ts p = cond (finished ts) (found ts p) (bad 6 p)
+finish ts p = cond (finished ts) (found ts p) (refused 6 p)
 
 -- FORMAT 3.3: the token count and the tokens
 unfoldable pub conditionAt : List ℕ → ℕ → ℕ → ℕ → Outcome (At Condition)
@@ -228,7 +224,7 @@ changeAt s kind low gs p =
 
 -- FORMAT 4.3, 9: bytes are left, and the place is the first one's
 unfoldable pub ending : List ℕ → Question → ℕ → Read
-ending s q p = cond (ltb p (length s)) (bad 9 p) (good q)
+ending s q p = cond (ltb p (length s)) (refused 9 p) (good q)
 
 module _ (s : List ℕ) (kind changed : ℕ) (ws : List ℕ) where
   unfoldable pub fromChange : List Column → Condition → ℕ → Read
@@ -244,7 +240,7 @@ module _ (s : List ℕ) (kind changed : ℕ) (ws : List ℕ) where
   fromVisible cs p = seen (visibleFrom 0 cs)
     where
       seen : List ℕ → Read
-      seen [] = bad 8 p
+      seen [] = refused 8 p
       seen (i ∷ is) = fromCondition cs p
 
   unfoldable pub fromColumns : ℕ → Read
@@ -268,11 +264,11 @@ fromTables s p = andThen (byte s 4 1 (upTo mostTables) p) λ tables p. fromKind 
 
 -- FORMAT 3.2: the version, one field of two bytes
 unfoldable pub fromVersion : List ℕ → Read
-fromVersion s = cond (leb 5 (length s)) (cond (eqb (getD s 3 0 + 256 * getD s 4 0) 1) (fromTables s 5) (bad 3 3)) (bad 1 3)
+fromVersion s = cond (leb 5 (length s)) (cond (eqb (getD s 3 0 + 256 * getD s 4 0) 1) (fromTables s 5) (refused 3 3)) (refused 1 3)
 
 -- FORMAT 3.2: the mark, one field of three bytes
 abbrev pub marked : List ℕ → Bool
 marked s = eqb (getD s 0 0) 86 && eqb (getD s 1 0) 85 && eqb (getD s 2 0) 81
 
 unfoldable pub readOf : List ℕ → Read
-readOf s = cond (leb 3 (length s)) (cond (marked s) (fromVersion s) (bad 2 0)) (bad 1 0)
+readOf s = cond (leb 3 (length s)) (cond (marked s) (fromVersion s) (refused 2 0)) (refused 1 0)

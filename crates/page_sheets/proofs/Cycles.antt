@@ -10,10 +10,11 @@ use lib.Seq.{drop-cons, drop-drop, take-all}
 use lib.IntN.{pos}
 use lib.Signed.{ltZ}
 use borrow.Author.Tests.{le-leb, lt-leb}
+use Rattle.page_numbers.specs.Outcome.{good, refused}
 use Rattle.page_walks.specs.Walk.{closed}
 use Rattle.page_walks.specs.Grid.{Grid, weight}
 use Rattle.page_formulas.specs.Formulas.{Formula}
-use Rattle.page_sheets.specs.Tree.{passed, refused, got, lacking, vertices, cycleEnd, cycleNode}
+use Rattle.page_sheets.specs.Tree.{vertices, cycleEnd, cycleNode}
 
 -- a part up to the end is all that stands after its start
 pub to-the-end : (l : List ℕ) (n : ℕ) → take (length l - n) (drop n l) ≡ drop n l
@@ -61,16 +62,16 @@ module _ (N : ℕ) (F : Formula) (g : Grid) (part : List ℕ) (at base : ℕ) wh
           let e : base + (at + 1 + 1) ≡ suc (suc (base + at)) = omega arith in
           rw (opened, e) (count-good N F g (base + at) bytes count some few)
 
-      pub cycle-lacking : (n p : ℕ) → lacking n (base + (at + 1 + 1) + p) ≡ vertices (F .ranges) count (base + (at + 1 + 1)) bytes → refused n (base + (at + 1 + 1 + p)) ≡ cycleNode N F g (base + at) (drop (at + 1) part)
+      pub cycle-lacking : (n p : ℕ) → refused n (base + (at + 1 + 1) + p) ≡ vertices (F .ranges) count (base + (at + 1 + 1)) bytes → refused n (base + (at + 1 + 1 + p)) ≡ cycleNode N F g (base + at) (drop (at + 1) part)
       cycle-lacking n p v =
           let e : base + (at + 1 + 1 + p) ≡ base + (at + 1 + 1) + p = omega arith in
           ap (refused n) e ∙ ap (cycleEnd g (base + at)) v ∙ sym reads
 
-      module _ (v : got (take count bytes) (base + (at + 1 + 1) + count) (drop count bytes) ≡ vertices (F .ranges) count (base + (at + 1 + 1)) bytes) where
-        pub cycle-shut : ltZ (closed (weight g) (take count bytes)) (pos 0) ≡ true → passed (base + (at + 1 + 1 + count)) (drop (at + 1 + 1 + count) part) ≡ cycleNode N F g (base + at) (drop (at + 1) part)
+      module _ (v : good (take count bytes, base + (at + 1 + 1) + count, drop count bytes) ≡ vertices (F .ranges) count (base + (at + 1 + 1)) bytes) where
+        pub cycle-shut : ltZ (closed (weight g) (take count bytes)) (pos 0) ≡ true → good (base + (at + 1 + 1 + count), drop (at + 1 + 1 + count) part) ≡ cycleNode N F g (base + at) (drop (at + 1) part)
         cycle-shut t =
             let e : base + (at + 1 + 1 + count) ≡ base + (at + 1 + 1) + count = omega arith in
-            ap₂ passed e (sym (drop-drop count (at + 1 + 1) part)) ∙ sym (ap (λ b. cond b (passed (base + (at + 1 + 1) + count) (drop count bytes)) (refused 15 (base + at))) t) ∙ ap (cycleEnd g (base + at)) v ∙ sym reads
+            ap₂ (λ (o : ℕ) (r : List ℕ). good (o, r)) e (sym (drop-drop count (at + 1 + 1) part)) ∙ sym (ap (λ b. cond b (good (base + (at + 1 + 1) + count, drop count bytes)) (refused 15 (base + at))) t) ∙ ap (cycleEnd g (base + at)) v ∙ sym reads
 
         pub cycle-open : ltZ (closed (weight g) (take count bytes)) (pos 0) ≡ false → refused 15 (base + at) ≡ cycleNode N F g (base + at) (drop (at + 1) part)
-        cycle-open t = sym (ap (λ b. cond b (passed (base + (at + 1 + 1) + count) (drop count bytes)) (refused 15 (base + at))) t) ∙ ap (cycleEnd g (base + at)) v ∙ sym reads
+        cycle-open t = sym (ap (λ b. cond b (good (base + (at + 1 + 1) + count, drop count bytes)) (refused 15 (base + at))) t) ∙ ap (cycleEnd g (base + at)) v ∙ sym reads

@@ -8,8 +8,9 @@ use native.Mathlib.Omega.{arith}
 use lib.ListN.{length}
 use lib.IntN.{ℤ}
 use borrow.Author.Tests.{le-leb, lt-leb}
+use Rattle.page_numbers.specs.Outcome.{refused}
 use Rattle.page_sheets.specs.Rows.{fieldAt, valueAt}
-use Rattle.page_sheets.specs.Sheet.{Answer, refusal, checkFields}
+use Rattle.page_sheets.specs.Sheet.{Answer, checkFields}
 
 module _ (ok : ℕ → ℤ → Bool) (s : List ℕ) (count j : ℕ) (next : Answer) where
   pub fields-end : count ≤ j → checkFields ok s (count - j) j next ≡ next
@@ -20,12 +21,12 @@ module _ (ok : ℕ → ℤ → Bool) (s : List ℕ) (count j : ℕ) (next : Answ
     one-more : count - j ≡ suc (count - (j + 1))
     one-more = omega arith
 
-    pub fields-short : length s < fieldAt j + 4 → checkFields ok s (count - j) j next ≡ refusal 11 (fieldAt j)
+    pub fields-short : length s < fieldAt j + 4 → checkFields ok s (count - j) j next ≡ refused 11 (fieldAt j)
     unfolding checkFields
     fields-short l = rw (one-more, lt-leb (fieldAt j + 4) (length s) l)
 
     module _ (l : fieldAt j + 4 ≤ length s) where
-      pub fields-bad : ok j (valueAt s j) ≡ false → checkFields ok s (count - j) j next ≡ refusal 15 (fieldAt j)
+      pub fields-bad : ok j (valueAt s j) ≡ false → checkFields ok s (count - j) j next ≡ refused 15 (fieldAt j)
       unfolding checkFields
       fields-bad b = rw (one-more, le-leb (fieldAt j + 4) (length s) l, b)
 

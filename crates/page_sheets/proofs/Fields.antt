@@ -8,19 +8,20 @@ use native.Mathlib.Decide.{ℕ-discrete}
 use lib.ListN.{length}
 use lib.Dec.{T, leb, ltb, ltb→lt, le→leb, leb→le, lt→ltb}
 use lib.IntN.{ℤ}
+use Rattle.page_numbers.specs.Outcome.{good, refused}
 use Rattle.page_meaning.specs.Contents.{Question}
-use Rattle.page_formulas.specs.Known.{next}
+use Rattle.page_formulas.specs.Knowledge.{next}
 use Rattle.page_sheets.specs.Rows.{valueAt, width, fieldAt, firstOk, secondOk, fieldOk}
-use Rattle.page_sheets.specs.Sheet.{Answer, Verdict, says, refusal, field, checkFields}
+use Rattle.page_sheets.specs.Sheet.{Answer, Verdict, field, checkFields}
 use Rattle.page_sheets.proofs.Fit.{to-true, to-false}
 
-says-not : {v : Verdict} {n o : ℕ} {A : Type 0} → refusal n o ≡ says v → A
+says-not : {v : Verdict} {n o : ℕ} {A : Type 0} → refused n o ≡ good v → A
 says-not e = let z : _≡_ {A = ℕ} 0 1 = cc in absurd (omega arith)
 
-pub field-says : (s : List ℕ) (at w : ℕ) (ok : Bool) (number : ℕ) (next : Answer) (v : Verdict) → field s at w ok number next ≡ says v → (at + w ≤ length s) × T ok × (next ≡ says v)
+pub field-says : (s : List ℕ) (at w : ℕ) (ok : Bool) (number : ℕ) (next : Answer) (v : Verdict) → field s at w ok number next ≡ good v → (at + w ≤ length s) × T ok × (next ≡ good v)
 field-says s at w ok number next v e = go (leb (at + w) (length s)) ok (λ t. leb→le (at + w) (length s) t) e
   where
-    go : (b c : Bool) → (T b → at + w ≤ length s) → cond b (cond c next (refusal number at)) (refusal 11 at) ≡ says v → (at + w ≤ length s) × T c × (next ≡ says v)
+    go : (b c : Bool) → (T b → at + w ≤ length s) → cond b (cond c next (refused number at)) (refused 11 at) ≡ good v → (at + w ≤ length s) × T c × (next ≡ good v)
     go true true f e = (f tt, tt, e)
     go true false f e = says-not e
     go false c f e = says-not e
@@ -32,7 +33,7 @@ field-passes s at w ok number next h t = rw (to-true (leb (at + w) (length s)) (
 abbrev pub FieldsOk : (ℕ → ℤ → Bool) → List ℕ → ℕ → ℕ → Type 0
 FieldsOk ok s k j = (c : ℕ) → j ≤ c → c < j + k → (fieldAt c + 4 ≤ length s) × T (ok c (valueAt s c))
 
-pub fields-say : (ok : ℕ → ℤ → Bool) (s : List ℕ) (k j : ℕ) (next : Answer) (v : Verdict) → checkFields ok s k j next ≡ says v → FieldsOk ok s k j × (next ≡ says v)
+pub fields-say : (ok : ℕ → ℤ → Bool) (s : List ℕ) (k j : ℕ) (next : Answer) (v : Verdict) → checkFields ok s k j next ≡ good v → FieldsOk ok s k j × (next ≡ good v)
 unfolding checkFields
 fields-say ok s zero j next v e = (λ c l h. absurd (omega arith), e)
 fields-say ok s (suc k) j next v e =

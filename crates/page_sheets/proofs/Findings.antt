@@ -6,25 +6,26 @@ use mathlib.Core.Bool.{true, false, true≢false}
 use mathlib.Core.List.{List, [], _∷_, _++_, append-assoc, append-nil}
 use native.Mathlib.Omega.{arith}
 use lib.ListN.{length, getD, length-append}
+use Rattle.page_numbers.specs.Outcome.{good, refused}
 use Rattle.page_formulas.specs.Formulas.{Formula}
 use Rattle.page_formulas.specs.Program.{Values, truth}
 use Rattle.page_formulas.specs.Vertices.{InRange}
-use Rattle.page_questions.specs.Accepted.{Every}
+use Rattle.page_questions.specs.Guarantees.{Every}
 use Rattle.page_sheets.specs.Demands.{GreatestLeaf}
-use Rattle.page_sheets.specs.Grow.{Growth, shut, openAt, growTree}
-use Rattle.page_sheets.specs.Tree.{Outcome, andThen, Tree, bytesOf, passed, refused, checkTree}
+use Rattle.page_sheets.specs.Growth.{Growth, shut, openAt, growTree}
+use Rattle.page_sheets.specs.Tree.{Checked, andThen, Tree, bytesOf, checkTree}
 use Rattle.page_sheets.specs.Trees.{checkTrees, Finding, allShut, firstOpen, before, writeTrees, bytesAll}
 use Rattle.page_sheets.proofs.Fit.{Fit}
-use Rattle.page_sheets.proofs.Greatest.{open-greatest}
-use Rattle.page_sheets.proofs.Grows.{shut-passes, open-holds, shut-fails}
-use Rattle.page_sheets.proofs.Sound.{sound}
+use Rattle.page_sheets.proofs.GreatestValues.{open-greatest}
+use Rattle.page_sheets.proofs.Growth.{shut-passes, open-holds, shut-fails}
+use Rattle.page_sheets.proofs.Soundness.{sound}
 
 abbrev pub Fails : Formula → Type 0
 Fails F = (ρ : Values) → InRange (F .ranges) ρ → truth ρ (F .program) ≡ false
 
 -- ---- what passes: every formula fails
-abbrev AllFail : List Formula → Outcome → Type 0
-AllFail Fs (passed o r) = Every Fails Fs
+abbrev AllFail : List Formula → Checked → Type 0
+AllFail Fs (good (o, r)) = Every Fails Fs
 AllFail Fs (refused m o) = Unit {0}
 
 trees-sound : (N : ℕ) (Fs : List Formula) → Every (Fit N) Fs → (at : ℕ) (bs : List ℕ) → AllFail Fs (checkTrees N Fs at bs)
@@ -32,12 +33,12 @@ unfolding checkTrees
 trees-sound N [] a at bs = tt
 trees-sound N (F ∷ Fs) a at bs = go (checkTree N F at bs) refl (λ o r. trees-sound N Fs (a .1) o r)
   where
-    both : (x : Outcome) → Fails F → AllFail Fs x → AllFail (F ∷ Fs) x
-    both (passed o r) h k = (h, k)
+    both : (x : Checked) → Fails F → AllFail Fs x → AllFail (F ∷ Fs) x
+    both (good (o, r)) h k = (h, k)
     both (refused m o) h k = tt
 
-    go : (x : Outcome) → checkTree N F at bs ≡ x → ((o : ℕ) (r : List ℕ) → AllFail Fs (checkTrees N Fs o r)) → AllFail (F ∷ Fs) (andThen x (λ o r. checkTrees N Fs o r))
-    go (passed o r) e k = both (checkTrees N Fs o r) (sound N F (a .0 .ranges-small) at bs o r e) (k o r)
+    go : (x : Checked) → checkTree N F at bs ≡ x → ((o : ℕ) (r : List ℕ) → AllFail Fs (checkTrees N Fs o r)) → AllFail (F ∷ Fs) (andThen x (λ o r. checkTrees N Fs o r))
+    go (good (o, r)) e k = both (checkTrees N Fs o r) (sound N F (a .0 .ranges-small) at bs o r e) (k o r)
     go (refused m o) e k = tt
 
 -- a no: formula i is G, those before it fail, and it holds under the values
@@ -48,12 +49,12 @@ Opens (F ∷ Fs) (suc i) G x = Fails F × Opens Fs i G x
 
 -- ---- what is written: trees that pass, or values that the first open formula holds under
 abbrev Found : ℕ → List Formula → Finding → Type 0
-Found n Fs (allShut ts) = (at : ℕ) (rest : List ℕ) → checkTrees (suc n) Fs at (bytesAll ts ++ rest) ≡ passed (at + length (bytesAll ts)) rest
+Found n Fs (allShut ts) = (at : ℕ) (rest : List ℕ) → checkTrees (suc n) Fs at (bytesAll ts ++ rest) ≡ good (at + length (bytesAll ts), rest)
 Found n Fs (firstOpen i G x) = Opens Fs i G x
 
 trees-found : (n : ℕ) (Fs : List Formula) → Every (Fit (suc n)) Fs → Found n Fs (writeTrees n Fs)
 unfolding checkTrees writeTrees bytesAll
-trees-found n [] a = λ at rest. ap (λ o. passed o rest) (omega arith)
+trees-found n [] a = λ at rest. ap (λ o. good (o, rest)) (omega arith)
 trees-found n (F ∷ Fs) a = go (growTree n F) refl (writeTrees n Fs) (trees-found n Fs (a .1))
   where
     go : (r : Growth) → growTree n F ≡ r → (v : Finding) → Found n Fs v → Found n (F ∷ Fs) (before F r v)
@@ -63,14 +64,14 @@ trees-found n (F ∷ Fs) a = go (growTree n F) refl (writeTrees n Fs) (trees-fou
         ap (λ bs. andThen (checkTree (suc n) F at bs) (λ o r. checkTrees (suc n) Fs o r)) (append-assoc (bytesOf t) (bytesAll ts) rest)
         ∙ ap (λ x. andThen x (λ o r. checkTrees (suc n) Fs o r)) (shut-passes n F (a .0) t e at (bytesAll ts ++ rest))
         ∙ h (at + length (bytesOf t)) rest
-        ∙ ap (λ o. passed o rest) (omega (arith, length-append (bytesOf t) (bytesAll ts)))
+        ∙ ap (λ o. good (o, rest)) (omega (arith, length-append (bytesOf t) (bytesAll ts)))
 
 -- a written yes passes
-pub yes-found : (n : ℕ) (Fs : List Formula) → Every (Fit (suc n)) Fs → (ts : List Tree) → writeTrees n Fs ≡ allShut ts → (at : ℕ) → checkTrees (suc n) Fs at (bytesAll ts) ≡ passed (at + length (bytesAll ts)) []
+pub yes-found : (n : ℕ) (Fs : List Formula) → Every (Fit (suc n)) Fs → (ts : List Tree) → writeTrees n Fs ≡ allShut ts → (at : ℕ) → checkTrees (suc n) Fs at (bytesAll ts) ≡ good (at + length (bytesAll ts), [])
 yes-found n Fs a ts e at = ap (λ bs. checkTrees (suc n) Fs at bs) (sym (append-nil (bytesAll ts))) ∙ (rw e at (trees-found n Fs a)) at []
 
 -- what passes is right
-pub yes-sound : (N : ℕ) (Fs : List Formula) → Every (Fit N) Fs → (at : ℕ) (bs : List ℕ) (o : ℕ) (r : List ℕ) → checkTrees N Fs at bs ≡ passed o r → Every Fails Fs
+pub yes-sound : (N : ℕ) (Fs : List Formula) → Every (Fit N) Fs → (at : ℕ) (bs : List ℕ) (o : ℕ) (r : List ℕ) → checkTrees N Fs at bs ≡ good (o, r) → Every Fails Fs
 yes-sound N Fs a at bs o r e = rw e at (trees-sound N Fs a at bs)
 
 -- a written no, and then no yes passes

@@ -14,9 +14,9 @@ use Rattle.page_numbers.proofs.Bridge.{ints}
 use Rattle.page_meaning.specs.Limits.{mostVertices}
 use Rattle.page_formulas.specs.Formulas.{Formula}
 use Rattle.page_formulas.specs.Program.{Values, places}
-use Rattle.page_formulas.specs.Vertices.{Within, InRange, Ranges, isSome, present}
-use Rattle.page_formulas.specs.Proper.{SmallRange, Proper, billion, SmallPlace}
-use Rattle.page_questions.specs.Accepted.{Every}
+use Rattle.page_formulas.specs.Vertices.{Inside, InRange, Ranges, isSome, present}
+use Rattle.page_formulas.specs.ProperFormulas.{SmallRange, Proper, billion, SmallPlace}
+use Rattle.page_questions.specs.Guarantees.{Every}
 
 pub record Fit (N : ℕ) (F : Formula) : Type 0 where
   pub some-vertex : length (F .ranges) < N
@@ -40,7 +40,7 @@ present-below rs (suc v) t = go rs v t
     go (r ∷ rs) zero t = omega arith
     go (r ∷ rs) (suc v) t = omega (arith, go rs v t)
 
-within-small : (ρ : Values) (s : ℕ) (rs : Ranges) → Within ρ s rs → Every SmallRange rs → (v : ℕ) → T (isSome (getD rs v none)) → (i : ℕ) → i ≡ s + v → (up (ρ i) ≤ billion) × (dn (ρ i) ≤ billion)
+within-small : (ρ : Values) (s : ℕ) (rs : Ranges) → Inside ρ s rs → Every SmallRange rs → (v : ℕ) → T (isSome (getD rs v none)) → (i : ℕ) → i ≡ s + v → (up (ρ i) ≤ billion) × (dn (ρ i) ≤ billion)
 within-small ρ s [] w a v t i e = absurd t
 within-small ρ s (none ∷ rs) w a zero t i e = absurd t
 within-small ρ s (some r ∷ rs) w a zero t i e = let d : i ≡ s = omega arith in rw d (small (ρ s) (r .lo) (r .hi) (w .0) (w .1) (a .0))

@@ -9,21 +9,22 @@ use lib.ListN.{length, getD, drop}
 use lib.Dec.{eqb, leb, ltb}
 use lib.IntN.{ℤ, pos}
 use lib.Signed.{ltZ}
+use Rattle.page_numbers.specs.Outcome.{good, refused}
 use Rattle.page_meaning.specs.Limits.{mostVertices}
 use Rattle.page_meaning.specs.Contents.{Question}
 use Rattle.page_walks.specs.Grid.{Grid, weight}
 use Rattle.page_walks.specs.Walk.{closed}
 use Rattle.page_formulas.specs.Formulas.{Formula, formulas, noFormula}
-use Rattle.page_formulas.specs.Known.{Three, fails, passes, open?, known}
+use Rattle.page_formulas.specs.Knowledge.{Three, fails, passes, open?, known}
 use Rattle.page_formulas.specs.Program.{Place, places, truth}
 use Rattle.page_formulas.specs.Vertices.{Ranges, present}
-use Rattle.page_questions.specs.Reader.{Read, good, bad, readOf}
+use Rattle.page_questions.specs.Reader.{Read, readOf}
 use Rattle.page_questions.proofs.Refusals.{refused-bounds}
 use Rattle.page_sheets.specs.Facts.{start, decide}
-use Rattle.page_sheets.specs.Tree.{Outcome, passed, refused, andThen, Vertices, got, lacking, more, vertices, falseNode, cycleEnd, node, check}
+use Rattle.page_sheets.specs.Tree.{Checked, andThen, Vertices, more, vertices, falseNode, cycleEnd, node, check}
 use Rattle.page_sheets.specs.Trees.{checkTrees}
 use Rattle.page_sheets.specs.Rows.{fieldAt, valueAt, fieldOk, fields, readValues}
-use Rattle.page_sheets.specs.Sheet.{sayNo, Answer, says, refusal, field, yesEnd, checkYes, checkFields, noEnd, checkRows, checkNo, checkBody, marked, versioned, checkSheet}
+use Rattle.page_sheets.specs.Sheet.{sayNo, Answer, field, yesEnd, checkYes, checkFields, noEnd, checkRows, checkNo, checkBody, marked, versioned, checkSheet}
 use Rattle.page_sheets.specs.Answers.{checkFor, checkOf}
 
 -- a number of the sheet's own
@@ -31,18 +32,18 @@ abbrev pub Own : ℕ → Type 0
 Own n = (11 ≤ n) × (n ≤ 16)
 
 -- of a tree's check, and of its vertices
-abbrev Tried : Outcome → Type 0
-Tried (passed o r) = Unit {0}
+abbrev Tried : Checked → Type 0
+Tried (good (o, r)) = Unit {0}
 Tried (refused n o) = Own n
 
 abbrev Named : Vertices → Type 0
-Named (got c o r) = Unit {0}
-Named (lacking n o) = Own n
+Named (good (c, o, r)) = Unit {0}
+Named (refused n o) = Own n
 
 -- of an answer
 abbrev Numbered : Answer → Type 0
-Numbered (says v) = Unit {0}
-Numbered (refusal n p) = Own n
+Numbered (good v) = Unit {0}
+Numbered (refused n p) = Own n
 
 own : (n : ℕ) → 11 ≤ n → n ≤ 16 → Own n
 own n a b = (a, b)
@@ -53,17 +54,17 @@ vertices-named rs zero at bs = tt
 vertices-named rs (suc n) at [] = (omega arith, omega arith)
 vertices-named rs (suc n) at (v ∷ bs) = go (present rs v) (vertices rs n (suc at) bs) (vertices-named rs n (suc at) bs)
   where
-    go : (b : Bool) (r : Vertices) → Named r → Named (cond b (more v r) (lacking 14 at))
-    go true (got c o r) h = tt
-    go true (lacking m o) h = h
+    go : (b : Bool) (r : Vertices) → Named r → Named (cond b (more v r) (refused 14 at))
+    go true (good (c, o, r)) h = tt
+    go true (refused m o) h = h
     go false r h = (omega arith, omega arith)
 
-then-tried : (x : Outcome) (k : ℕ → List ℕ → Outcome) → Tried x → ((o : ℕ) (r : List ℕ) → Tried (k o r)) → Tried (andThen x k)
-then-tried (passed o r) k h f = f o r
+then-tried : (x : Checked) (k : ℕ → List ℕ → Checked) → Tried x → ((o : ℕ) (r : List ℕ) → Tried (k o r)) → Tried (andThen x k)
+then-tried (good (o, r)) k h f = f o r
 then-tried (refused n o) k h f = h
 
 module _ (N : ℕ) (F : Formula) where
-  node-tried : (ds : List Bool) (g : Grid) (at : ℕ) (bs : List ℕ) (branch : List ℕ → Outcome) → ((rest : List ℕ) → Tried (branch rest)) → Tried (node N F ds g at bs branch)
+  node-tried : (ds : List Bool) (g : Grid) (at : ℕ) (bs : List ℕ) (branch : List ℕ → Checked) → ((rest : List ℕ) → Tried (branch rest)) → Tried (node N F ds g at bs branch)
   node-tried ds g at [] branch k = (omega arith, omega arith)
   node-tried ds g at (zero ∷ bs) branch k = (omega arith, omega arith)
   node-tried ds g at (suc zero ∷ bs) branch k = go (known (F .program) ds)
@@ -76,13 +77,13 @@ module _ (N : ℕ) (F : Formula) where
   node-tried ds g at (suc (suc zero) ∷ (zero ∷ bs)) branch k = (omega arith, omega arith)
   node-tried ds g at (suc (suc zero) ∷ (suc n ∷ bs)) branch k = go (leb (suc n) N) (vertices (F .ranges) (suc n) (suc (suc at)) bs) (vertices-named (F .ranges) (suc n) (suc (suc at)) bs)
     where
-      sum : (o : ℕ) (r : List ℕ) (b : Bool) → Tried (cond b (passed o r) (refused 15 at))
+      sum : (o : ℕ) (r : List ℕ) (b : Bool) → Tried (cond b (good (o, r)) (refused 15 at))
       sum o r true = tt
       sum o r false = (omega arith, omega arith)
 
       go : (b : Bool) (r : Vertices) → Named r → Tried (cond b (cycleEnd g at r) (refused 14 (suc at)))
-      go true (got c o r) h = sum o r (ltZ (closed (weight g) c) (pos 0))
-      go true (lacking m o) h = h
+      go true (good (c, o, r)) h = sum o r (ltZ (closed (weight g) c) (pos 0))
+      go true (refused m o) h = h
       go false r h = (omega arith, omega arith)
   node-tried ds g at (suc (suc (suc zero)) ∷ bs) branch k = k bs
   node-tried ds g at (suc (suc (suc (suc b))) ∷ bs) branch k = (omega arith, omega arith)
@@ -101,7 +102,7 @@ trees-tried N (F ∷ Fs) at bs = then-tried (check N F (places (F .program)) [] 
 field-numbered : (s : List ℕ) (at w : ℕ) (ok : Bool) (number : ℕ) (next : Answer) → Own number → Numbered next → Numbered (field s at w ok number next)
 field-numbered s at w ok number next h k = go (leb (at + w) (length s)) ok
   where
-    go : (b o : Bool) → Numbered (cond b (cond o next (refusal number at)) (refusal 11 at))
+    go : (b o : Bool) → Numbered (cond b (cond o next (refused number at)) (refused 11 at))
     go true true = k
     go true false = h
     go false o = (omega arith, omega arith)
@@ -110,9 +111,9 @@ yes-numbered : (Fs : List Formula) (s : List ℕ) → Numbered (checkYes Fs s)
 unfolding checkYes
 yes-numbered Fs s = go (checkTrees mostVertices Fs 7 (drop 7 s)) (trees-tried mostVertices Fs 7 (drop 7 s))
   where
-    go : (x : Outcome) → Tried x → Numbered (yesEnd x)
-    go (passed o []) h = tt
-    go (passed o (b ∷ r)) h = (omega arith, omega arith)
+    go : (x : Checked) → Tried x → Numbered (yesEnd x)
+    go (good (o, [])) h = tt
+    go (good (o, b ∷ r)) h = (omega arith, omega arith)
     go (refused n o) h = h
 
 fields-numbered : (ok : ℕ → ℤ → Bool) (s : List ℕ) (k j : ℕ) (next : Answer) → Numbered next → Numbered (checkFields ok s k j next)
@@ -124,7 +125,7 @@ end-numbered : (q : Question) (F : Formula) (s : List ℕ) → Numbered (noEnd q
 unfolding noEnd
 end-numbered q F s = go (truth (readValues q F s) (F .program)) (leb (length s) (fieldAt (fields q F)))
   where
-    go : (t b : Bool) → Numbered (cond t (cond b (says sayNo) (refusal 16 0)) (refusal 15 7))
+    go : (t b : Bool) → Numbered (cond t (cond b (good sayNo) (refused 16 0)) (refused 15 7))
     go true true = tt
     go true false = (omega arith, omega arith)
     go false b = (omega arith, omega arith)
@@ -148,7 +149,7 @@ sheet-numbered q a s =
     body zero = yes-numbered (formulas q a) s
     body (suc v) = no-numbered q (formulas q a) s
 
-pub sheet-own : (q : Question) (a : ℕ) (s : List ℕ) (n p : ℕ) → checkSheet q a s ≡ refusal n p → Own n
+pub sheet-own : (q : Question) (a : ℕ) (s : List ℕ) (n p : ℕ) → checkSheet q a s ≡ refused n p → Own n
 sheet-own q a s n p e = subst Numbered e (sheet-numbered q a s)
 
 -- ---- any bytes
@@ -157,21 +158,21 @@ abbrev pub Given : ℕ → Type 0
 Given n = (n ≡ 20) ⊎ (((1 ≤ n) × (n ≤ 9)) ⊎ Own n)
 
 abbrev AllGiven : Answer → Type 0
-AllGiven (says v) = Unit {0}
-AllGiven (refusal n p) = Given n
+AllGiven (good v) = Unit {0}
+AllGiven (refused n p) = Given n
 
-pub check-given : (a : ℕ) (s sheet : List ℕ) (n p : ℕ) → checkOf a s sheet ≡ refusal n p → Given n
+pub check-given : (a : ℕ) (s sheet : List ℕ) (n p : ℕ) → checkOf a s sheet ≡ refused n p → Given n
 unfolding checkOf
 check-given a s sheet n p e = subst AllGiven e (asked (eqb a 1 || eqb a 2))
   where
     own-given : (x : Answer) → Numbered x → AllGiven x
-    own-given (says v) h = tt
-    own-given (refusal m o) h = inr (inr h)
+    own-given (good v) h = tt
+    own-given (refused m o) h = inr (inr h)
 
     question : (r : Read) → readOf s ≡ r → AllGiven (checkFor a sheet r)
     question (good q) h = own-given (checkSheet q a sheet) (sheet-numbered q a sheet)
-    question (bad m o) h = let b = refused-bounds s m o h in inr (inl (b .0, b .1))
+    question (refused m o) h = let b = refused-bounds s m o h in inr (inl (b .0, b .1))
 
-    asked : (b : Bool) → AllGiven (checkFor a sheet (cond b (readOf s) (bad 20 0)))
+    asked : (b : Bool) → AllGiven (checkFor a sheet (cond b (readOf s) (refused 20 0)))
     asked true = question (readOf s) refl
     asked false = inl refl

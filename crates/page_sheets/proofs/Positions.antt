@@ -1,14 +1,15 @@
 -- The checker and the writer over a list of formulas, by a position as code keeps it.
-use Prim.Native.Nat.{ℕ, zero, suc, _+_, _-_, _≤_, _<_}
+use Prim.Native.Nat.{ℕ, zero, suc, _+_, _≤_, _<_}
 use mathlib.Core.Path.{_≡_, refl, sym, ap, _∙_, subst}
 use mathlib.Core.List.{List, [], _∷_, _++_, append-assoc, append-nil}
 use native.Mathlib.Omega.{arith}
 use lib.ListN.{length, getD, drop, drop-of-length-le}
 use lib.Seq.{drop-cons}
+use Rattle.page_numbers.specs.Outcome.{good}
 use Rattle.page_meaning.specs.Contents.{Values}
 use Rattle.page_formulas.specs.Formulas.{Formula}
-use Rattle.page_sheets.specs.Grow.{Growth, shut, openAt, growTree}
-use Rattle.page_sheets.specs.Tree.{andThen, Tree, bytesOf, passed, checkTree}
+use Rattle.page_sheets.specs.Growth.{Growth, shut, openAt, growTree}
+use Rattle.page_sheets.specs.Tree.{andThen, Tree, bytesOf, checkTree}
 use Rattle.page_sheets.specs.Trees.{checkTrees, Finding, allShut, firstOpen, before, writeTrees, bytesAll}
 use Rattle.page_formulas.specs.Program as P
 
@@ -18,7 +19,7 @@ module _ (N : ℕ) (Fs : List Formula) (i : ℕ) where
   unfolding checkTrees
   trees-next h F at bs = rw (drop-cons Fs i F h)
 
-  pub trees-end : length Fs ≤ i → (at : ℕ) (bs : List ℕ) → checkTrees N (drop i Fs) at bs ≡ passed at bs
+  pub trees-end : length Fs ≤ i → (at : ℕ) (bs : List ℕ) → checkTrees N (drop i Fs) at bs ≡ good (at, bs)
   unfolding checkTrees
   trees-end h at bs = rw (drop-of-length-le Fs h)
 

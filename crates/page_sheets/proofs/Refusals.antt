@@ -8,25 +8,26 @@ use native.Mathlib.Omega.{arith}
 use borrow.Author.Tests.{eqb-true, eqb-false, leb-true, leb-false}
 use lib.ListN.{length, take}
 use lib.Dec.{eqb, leb}
+use Rattle.page_numbers.specs.Outcome.{good, refused}
 use Rattle.page_meaning.specs.Contents.{Question}
-use Rattle.page_questions.specs.Longest.{longest}
-use Rattle.page_questions.specs.Reader.{Read, good, bad, readOf}
-use Rattle.page_questions.proofs.Longest.{first-bytes-tell}
+use Rattle.page_questions.specs.Lengths.{longest}
+use Rattle.page_questions.specs.Reader.{Read, readOf}
+use Rattle.page_questions.proofs.Lengths.{first-bytes-tell}
 use Rattle.page_questions.proofs.Refusals.{refused-bounds}
-use Rattle.page_sheets.specs.Answers.{askedOf, judge, verdictOf, checkFor, checkOf, Written, wrote, unwritten, Done, writeFor, writeOf}
+use Rattle.page_sheets.specs.Answers.{askedOf, judge, verdictOf, checkFor, checkOf, Written, Done, writeFor, writeOf}
 use Rattle.page_sheets.specs.Demands.{Askable}
 use Rattle.page_sheets.specs.Faults.{AllSaid, sheetFields, verdictIn}
 use Rattle.page_sheets.specs.Refusals.{NotAskable, TwentyExactly, TooLongExactly, ReadExactly, SheetExactly, PassExactly, FirstBytesAnswer}
-use Rattle.page_sheets.specs.Sheet.{Answer, says, refusal, verdictFor, findingOf, sheetOf, checkSheet}
+use Rattle.page_sheets.specs.Sheet.{Answer, verdictFor, findingOf, sheetOf, checkSheet}
 use Rattle.page_sheets.proofs.Faults.{numberIn, placeIn, says-apart, sheet-refused, sheet-taken}
 use Rattle.page_sheets.proofs.Numbers.{sheet-own}
 
 -- ---- what is asked
 
-pub asked-cases : (a : ℕ) (s : List ℕ) → (Askable a × (askedOf a s ≡ readOf s)) ⊎ ((¬ Askable a) × (askedOf a s ≡ bad 20 0))
+pub asked-cases : (a : ℕ) (s : List ℕ) → (Askable a × (askedOf a s ≡ readOf s)) ⊎ ((¬ Askable a) × (askedOf a s ≡ refused 20 0))
 asked-cases a s = go (eqb a 1) (eqb a 2) refl refl
   where
-    go : (b c : Bool) → eqb a 1 ≡ b → eqb a 2 ≡ c → (Askable a × (cond (b || c) (readOf s) (bad 20 0) ≡ readOf s)) ⊎ ((¬ Askable a) × (cond (b || c) (readOf s) (bad 20 0) ≡ bad 20 0))
+    go : (b c : Bool) → eqb a 1 ≡ b → eqb a 2 ≡ c → (Askable a × (cond (b || c) (readOf s) (refused 20 0) ≡ readOf s)) ⊎ ((¬ Askable a) × (cond (b || c) (readOf s) (refused 20 0) ≡ refused 20 0))
     go true c d e = inl (inl (eqb-true a 1 d), refl)
     go false true d e = inl (inr (eqb-true a 2 e), refl)
     go false false d e = inr ((λ h. elim h [ inl x ↦ eqb-false a 1 d x | inr x ↦ eqb-false a 2 e x ]), refl)
@@ -34,24 +35,24 @@ asked-cases a s = go (eqb a 1) (eqb a 2) refl refl
 -- ---- the number of a writer's answer, 100 where there is none, and its place
 
 abbrev numberOf : Written → ℕ
-numberOf (wrote v n) = 100
-numberOf (unwritten n p) = n
+numberOf (good (v, n)) = 100
+numberOf (refused n p) = n
 
 abbrev placeOf : Written → ℕ
-placeOf (wrote v n) = 0
-placeOf (unwritten n p) = p
+placeOf (good (v, n)) = 0
+placeOf (refused n p) = p
 
 -- ---- a routine that hands the reader's refusals on
 
 module _ {A : Type 0} (refuse : ℕ → ℕ → A) (number place : A → ℕ) (is-number : (n p : ℕ) → number (refuse n p) ≡ n) (is-place : (n p : ℕ) → place (refuse n p) ≡ p)
-    (f : Read → A) (hands-on : (n p : ℕ) → f (bad n p) ≡ refuse n p) (own : (q : Question) → (10 < number (f (good q))) × (number (f (good q)) ≢ 20)) (a : ℕ) (s : List ℕ) where
+    (f : Read → A) (hands-on : (n p : ℕ) → f (refused n p) ≡ refuse n p) (own : (q : Question) → (10 < number (f (good q))) × (number (f (good q)) ≢ 20)) (a : ℕ) (s : List ℕ) where
   same-number : (n p m o : ℕ) → refuse n p ≡ refuse m o → (n ≡ m) × (p ≡ o)
   same-number n p m o e = (sym (is-number n p) ∙ ap number e ∙ is-number m o, sym (is-place n p) ∙ ap place e ∙ is-place m o)
 
   -- the reader gives none above 9
-  read-small : (n p : ℕ) (r : Read) → readOf s ≡ r → f r ≡ refuse n p → (readOf s ≡ bad n p) ⊎ ((q : Question) × (readOf s ≡ good q) × (number (f (good q)) ≡ n))
+  read-small : (n p : ℕ) (r : Read) → readOf s ≡ r → f r ≡ refuse n p → (readOf s ≡ refused n p) ⊎ ((q : Question) × (readOf s ≡ good q) × (number (f (good q)) ≡ n))
   read-small n p (good q) d e = inr (q, d, ap number e ∙ is-number n p)
-  read-small n p (bad m o) d e = let same = same-number m o n p (sym (hands-on m o) ∙ e) in inl (d ∙ ap (λ k. bad k o) (same .0) ∙ ap (bad n) (same .1))
+  read-small n p (refused m o) d e = let same = same-number m o n p (sym (hands-on m o) ∙ e) in inl (d ∙ ap (λ k. refused k o) (same .0) ∙ ap (refused n) (same .1))
 
   twenty : (p : ℕ) → (f (askedOf a s) ≡ refuse 20 p) ↔ NotAskable a p
   twenty p = (forth, back)
@@ -71,16 +72,16 @@ module _ {A : Type 0} (refuse : ℕ → ℕ → A) (number place : A → ℕ) (i
         | inr x ↦ ap f (x .1) ∙ hands-on 20 0 ∙ ap (refuse 20) (sym (h .0))
       ]
 
-  read-first : (n p : ℕ) → n < 10 → (f (askedOf a s) ≡ refuse n p) ↔ (Askable a × (readOf s ≡ bad n p))
+  read-first : (n p : ℕ) → n < 10 → (f (askedOf a s) ≡ refuse n p) ↔ (Askable a × (readOf s ≡ refused n p))
   read-first n p l = (forth, back)
     where
-      forth : f (askedOf a s) ≡ refuse n p → Askable a × (readOf s ≡ bad n p)
+      forth : f (askedOf a s) ≡ refuse n p → Askable a × (readOf s ≡ refused n p)
       forth e = elim (asked-cases a s) [
         | inl x ↦ (x .0, elim (read-small n p (readOf s) refl (ap f (sym (x .1)) ∙ e)) [ inl d ↦ d | inr y ↦ absurd (omega (arith, own (y .0) .0, y .2)) ])
         | inr x ↦ absurd (omega (arith, same-number 20 0 n p (sym (hands-on 20 0) ∙ ap f (sym (x .1)) ∙ e) .0))
       ]
 
-      back : Askable a × (readOf s ≡ bad n p) → f (askedOf a s) ≡ refuse n p
+      back : Askable a × (readOf s ≡ refused n p) → f (askedOf a s) ≡ refuse n p
       back h = elim (asked-cases a s) [
         | inl x ↦ ap f (x .1 ∙ h .1) ∙ hands-on n p
         | inr x ↦ absurd (x .0 (h .0))
@@ -120,8 +121,8 @@ check-own : (a : ℕ) (sheet : List ℕ) (q : Question) → (10 < numberIn (chec
 check-own a sheet q = go (checkSheet q a sheet) refl
   where
     go : (x : Answer) → checkSheet q a sheet ≡ x → (10 < numberIn x) × (numberIn x ≢ 20)
-    go (says v) e = apart 100 (omega arith)
-    go (refusal n p) e = let o = sheet-own q a sheet n p e in (omega (arith, o .0), λ d. omega (arith, o .1))
+    go (good v) e = apart 100 (omega arith)
+    go (refused n p) e = let o = sheet-own q a sheet n p e in (omega (arith, o .0), λ d. omega (arith, o .1))
 
 write-own : (a : ℕ) (room : List ℕ) (q : Question) → (10 < numberOf (writeFor a room (good q) .answer)) × (numberOf (writeFor a room (good q) .answer) ≢ 20)
 write-own a room q = go (leb (length (sheetOf q a)) (length room)) _ _ (apart 100 (omega arith)) (apart 21 (omega arith))
@@ -135,23 +136,23 @@ write-own a room q = go (leb (length (sheetOf q a)) (length room)) _ _ (apart 10
 pub twenty-exactly : TwentyExactly
 unfolding verdictOf writeOf checkOf
 twenty-exactly a s p = (
-  twenty refusal numberIn placeIn (λ n p. refl) (λ n p. refl) (judge a) (λ n p. refl) (verdict-own a) a s p,
-  (λ room. twenty unwritten numberOf placeOf (λ n p. refl) (λ n p. refl) (λ r. writeFor a room r .answer) (λ n p. refl) (write-own a room) a s p),
-  (λ sheet. twenty refusal numberIn placeIn (λ n p. refl) (λ n p. refl) (checkFor a sheet) (λ n p. refl) (check-own a sheet) a s p),
+  twenty refused numberIn placeIn (λ n p. refl) (λ n p. refl) (judge a) (λ n p. refl) (verdict-own a) a s p,
+  (λ room. twenty refused numberOf placeOf (λ n p. refl) (λ n p. refl) (λ r. writeFor a room r .answer) (λ n p. refl) (write-own a room) a s p),
+  (λ sheet. twenty refused numberIn placeIn (λ n p. refl) (λ n p. refl) (checkFor a sheet) (λ n p. refl) (check-own a sheet) a s p),
 )
 
 pub read-exactly : ReadExactly
 unfolding verdictOf writeOf checkOf
 read-exactly a s n p l = (
-  read-first refusal numberIn placeIn (λ n p. refl) (λ n p. refl) (judge a) (λ n p. refl) (verdict-own a) a s n p l,
-  (λ room. read-first unwritten numberOf placeOf (λ n p. refl) (λ n p. refl) (λ r. writeFor a room r .answer) (λ n p. refl) (write-own a room) a s n p l),
-  (λ sheet. read-first refusal numberIn placeIn (λ n p. refl) (λ n p. refl) (checkFor a sheet) (λ n p. refl) (check-own a sheet) a s n p l),
+  read-first refused numberIn placeIn (λ n p. refl) (λ n p. refl) (judge a) (λ n p. refl) (verdict-own a) a s n p l,
+  (λ room. read-first refused numberOf placeOf (λ n p. refl) (λ n p. refl) (λ r. writeFor a room r .answer) (λ n p. refl) (write-own a room) a s n p l),
+  (λ sheet. read-first refused numberIn placeIn (λ n p. refl) (λ n p. refl) (checkFor a sheet) (λ n p. refl) (check-own a sheet) a s n p l),
 )
 
 pub sheet-exactly : SheetExactly
 unfolding checkOf
 sheet-exactly a s sheet n p l h =
-    let x = good-first refusal numberIn placeIn (λ n p. refl) (λ n p. refl) (checkFor a sheet) (λ n p. refl) (check-own a sheet) a s n p l (λ e. omega arith) in (
+    let x = good-first refused numberIn placeIn (λ n p. refl) (λ n p. refl) (checkFor a sheet) (λ n p. refl) (check-own a sheet) a s n p l (λ e. omega arith) in (
       (λ e. let y = x .0 e in (y .0, (y .1 .0, y .1 .1, sheet-refused (y .1 .0) a sheet n p .0 (y .1 .2)))),
       (λ y. x .1 (y .0, (y .1 .0, y .1 .1, sheet-refused (y .1 .0) a sheet n p .1 (y .1 .2)))),
     )
@@ -160,35 +161,35 @@ pub pass-exactly : PassExactly
 unfolding checkOf
 pass-exactly a s sheet v = (forth, back)
   where
-    forth : checkFor a sheet (askedOf a s) ≡ says v → Askable a × ((q : Question) × (readOf s ≡ good q) × AllSaid sheet (sheetFields sheet q a) × (verdictIn sheet ≡ v))
+    forth : checkFor a sheet (askedOf a s) ≡ good v → Askable a × ((q : Question) × (readOf s ≡ good q) × AllSaid sheet (sheetFields sheet q a) × (verdictIn sheet ≡ v))
     forth e = elim (asked-cases a s) [
       | inl x ↦ (x .0, go (readOf s) refl (ap (checkFor a sheet) (sym (x .1)) ∙ e))
       | inr x ↦ absurd (let z : _≡_ {A = ℕ} 20 100 = ap numberIn (ap (checkFor a sheet) (sym (x .1)) ∙ e) in omega (arith, z))
     ]
       where
-        go : (r : Read) → readOf s ≡ r → checkFor a sheet r ≡ says v → (q : Question) × (readOf s ≡ good q) × AllSaid sheet (sheetFields sheet q a) × (verdictIn sheet ≡ v)
+        go : (r : Read) → readOf s ≡ r → checkFor a sheet r ≡ good v → (q : Question) × (readOf s ≡ good q) × AllSaid sheet (sheetFields sheet q a) × (verdictIn sheet ≡ v)
         go (good q) d e = let y = sheet-taken q a sheet v .0 e in (q, d, y .0, y .1)
-        go (bad n p) d e = absurd (says-apart v n p (sym e))
+        go (refused n p) d e = absurd (says-apart v n p (sym e))
 
-    back : Askable a × ((q : Question) × (readOf s ≡ good q) × AllSaid sheet (sheetFields sheet q a) × (verdictIn sheet ≡ v)) → checkFor a sheet (askedOf a s) ≡ says v
+    back : Askable a × ((q : Question) × (readOf s ≡ good q) × AllSaid sheet (sheetFields sheet q a) × (verdictIn sheet ≡ v)) → checkFor a sheet (askedOf a s) ≡ good v
     back h = elim (asked-cases a s) [
       | inl x ↦ ap (checkFor a sheet) (x .1 ∙ h .1 .1) ∙ sheet-taken (h .1 .0) a sheet v .1 (h .1 .2, h .1 .3)
       | inr x ↦ absurd (x .0 (h .0))
     ]
 
 -- 21 is the only number of a sheet that isn't written though the question is good
-placed-long : (q : Question) (a : ℕ) (room : List ℕ) (p : ℕ) → (writeFor a room (good q) .answer ≡ unwritten 21 p) ↔ ((length room < length (sheetOf q a)) × (p ≡ 0))
+placed-long : (q : Question) (a : ℕ) (room : List ℕ) (p : ℕ) → (writeFor a room (good q) .answer ≡ refused 21 p) ↔ ((length room < length (sheetOf q a)) × (p ≡ 0))
 placed-long q a room p = go (leb (length (sheetOf q a)) (length room)) refl _ _ refl refl
   where
-    go : (b : Bool) → leb (length (sheetOf q a)) (length room) ≡ b → (x y : Done) → x .answer ≡ wrote (verdictFor (findingOf q a)) (length (sheetOf q a)) → y .answer ≡ unwritten 21 0
-        → (cond b x y .answer ≡ unwritten 21 p) ↔ ((length room < length (sheetOf q a)) × (p ≡ 0))
+    go : (b : Bool) → leb (length (sheetOf q a)) (length room) ≡ b → (x y : Done) → x .answer ≡ good (verdictFor (findingOf q a), length (sheetOf q a)) → y .answer ≡ refused 21 0
+        → (cond b x y .answer ≡ refused 21 p) ↔ ((length room < length (sheetOf q a)) × (p ≡ 0))
     go true l x y d k = ((λ e. absurd (let z : _≡_ {A = ℕ} 100 21 = ap numberOf (sym d ∙ e) in omega (arith, z))), (λ h. absurd (omega (arith, h .0, leb-true (length (sheetOf q a)) (length room) l))))
-    go false l x y d k = ((λ e. (leb-false (length (sheetOf q a)) (length room) l, sym (ap placeOf (sym k ∙ e)))), (λ h. k ∙ ap (unwritten 21) (sym (h .1))))
+    go false l x y d k = ((λ e. (leb-false (length (sheetOf q a)) (length room) l, sym (ap placeOf (sym k ∙ e)))), (λ h. k ∙ ap (refused 21) (sym (h .1))))
 
 pub too-long-exactly : TooLongExactly
 unfolding writeOf
 too-long-exactly a s room p =
-    let x = good-first unwritten numberOf placeOf (λ n p. refl) (λ n p. refl) (λ r. writeFor a room r .answer) (λ n p. refl) (write-own a room) a s 21 p (omega arith) (λ e. omega arith) in (
+    let x = good-first refused numberOf placeOf (λ n p. refl) (λ n p. refl) (λ r. writeFor a room r .answer) (λ n p. refl) (write-own a room) a s 21 p (omega arith) (λ e. omega arith) in (
       (λ e. let y = x .0 e in let l = placed-long (y .1 .0) a room p .0 (y .1 .2) in (y .0, (y .1 .0, y .1 .1, l .0, l .1))),
       (λ h. x .1 (h .0, (h .1 .0, h .1 .1, placed-long (h .1 .0) a room p .1 (h .1 .2, h .1 .3)))),
     )
@@ -196,5 +197,5 @@ too-long-exactly a s room p =
 pub first-bytes-answer : FirstBytesAnswer
 unfolding verdictOf writeOf checkOf
 first-bytes-answer a s l =
-    let e : askedOf a s ≡ askedOf a (take (suc longest) s) = ap (λ r. cond (eqb a 1 || eqb a 2) r (bad 20 0)) (first-bytes-tell s l) in
+    let e : askedOf a s ≡ askedOf a (take (suc longest) s) = ap (λ r. cond (eqb a 1 || eqb a 2) r (refused 20 0)) (first-bytes-tell s l) in
     (ap (judge a) e, (λ room. ap (writeFor a room) e), (λ sheet. ap (checkFor a sheet) e))

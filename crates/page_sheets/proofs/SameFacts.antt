@@ -11,24 +11,24 @@ use lib.IntN.{pos, _+ℤ_}
 use lib.Signed.{_≤ℤ_, _<ℤ_}
 use Rattle.page_numbers.proofs.Bridge.{+law, ints}
 use Rattle.page_walks.specs.Grid.{Grid, weight, tighten}
-use Rattle.page_walks.specs.Near.{Weights, Least}
+use Rattle.page_walks.specs.Nearness.{Weights, Least}
 use Rattle.page_walks.specs.Search.{search, dist}
 use Rattle.page_walks.specs.Shortest.{Answer}
 use Rattle.page_walks.specs.Walk.{Sat}
 use Rattle.page_walks.proofs.Grids.{tighten-le, tighten-new}
-use Rattle.page_walks.proofs.Nears.{least-sat, relax-least, relaxed-old, relaxed-fact, relaxed-both, fact-round}
-use Rattle.page_walks.proofs.Searches.{search-is, dist-greatest}
+use Rattle.page_walks.proofs.Nearness.{least-sat, relax-least, relaxed-old, relaxed-fact, relaxed-both, fact-round}
+use Rattle.page_walks.proofs.Search.{search-is, dist-greatest}
 use Rattle.page_walks.proofs.Walks.{sound}
-use Rattle.page_questions.specs.Accepted.{Every}
+use Rattle.page_questions.specs.Guarantees.{Every}
 use Rattle.page_formulas.specs.Program.{Values, Place}
 use Rattle.page_formulas.specs.Vertices.{InRange, Ranges, present}
-use Rattle.page_formulas.specs.Proper.{SmallRange}
+use Rattle.page_formulas.specs.ProperFormulas.{SmallRange}
 use Rattle.page_sheets.specs.Facts.{start}
-use Rattle.page_sheets.specs.Fast.{after}
+use Rattle.page_sheets.specs.FastRule.{after}
 use Rattle.page_sheets.proofs.Fit.{present-below}
-use Rattle.page_sheets.proofs.Holds.{InBounds, bounds-start, sat-loosen, records-start}
-use Rattle.page_sheets.proofs.Meets.{Meets, meets-tighten, meets-start}
-use Rattle.page_sheets.proofs.Settles.{settle, settle-there, settle-sat}
+use Rattle.page_sheets.proofs.HeldFacts.{InBounds, bounds-start, sat-loosen, records-start}
+use Rattle.page_sheets.proofs.MetFacts.{Meets, meets-tighten, meets-start}
+use Rattle.page_sheets.proofs.AbsentVertices.{settle, settle-there, settle-sat}
 
 -- least sums of the ranges: the values that meet them are those in range, with 0 where the formula has no vertex
 pub record OfRanges (rs : Ranges) (near : Weights) : Type 0 where

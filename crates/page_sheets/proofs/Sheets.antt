@@ -7,31 +7,32 @@ use mathlib.Core.List.{List, [], _∷_}
 use native.Mathlib.Omega.{arith}
 use lib.ListN.{length, getD}
 use lib.Dec.{eqb}
+use Rattle.page_numbers.specs.Outcome.{good}
 use Rattle.page_meaning.specs.Contents.{Values, Question}
-use Rattle.page_meaning.specs.Exactly.{Relevant, Uncomputable}
+use Rattle.page_meaning.specs.Verdicts.{Relevant, Uncomputable}
 use Rattle.page_meaning.specs.Limits.{mostVertices}
 use Rattle.page_meaning.specs.Trouble.{one, two, irrelevance, computability, Met, AllFail, firstOf, secondOf}
 use Rattle.page_meaning.specs.WellFormed.{WellFormed}
-use Rattle.page_meaning.proofs.Agree.{relevant, uncomputable, irrelevant-agrees, computable-agrees}
+use Rattle.page_meaning.proofs.Agreement.{relevant, uncomputable, irrelevant-agrees, computable-agrees}
 use Rattle.page_formulas.specs.Formulas.{Formula, formulas, rowOf1, rowOf2, noFormula}
 use Rattle.page_formulas.specs.Program.{truth}
 use Rattle.page_formulas.specs.Vertices.{InRange}
 use Rattle.page_formulas.proofs.Agreement.{Agrees, AgreeAll, troubles, formulas-agree}
-use Rattle.page_formulas.proofs.Proper.{formulas-proper}
-use Rattle.page_formulas.proofs.Stands.{there1, back1, there2, back2, never-exactly}
-use Rattle.page_formulas.proofs.Usable.{Exists, Usable, usable}
-use Rattle.page_questions.specs.Accepted.{Every, Accepted}
+use Rattle.page_formulas.proofs.ProperFormulas.{formulas-proper}
+use Rattle.page_formulas.proofs.Assignments.{there1, back1, there2, back2, never-exactly}
+use Rattle.page_formulas.proofs.Usability.{Exists, Usable, usable}
+use Rattle.page_questions.specs.Guarantees.{Every, Accepted}
 use Rattle.page_sheets.specs.Demands.{Meant, Broken, named, shownFirst, shownSecond}
 use Rattle.page_sheets.specs.Rows.{firstRow, secondRow, noBytes, fixed}
-use Rattle.page_sheets.specs.Sheet.{lastVertex, sayYes, sayNo, says, sheetFor, verdictFor, findingOf, sheetOf, checkSheet}
+use Rattle.page_sheets.specs.Sheet.{lastVertex, sayYes, sayNo, sheetFor, verdictFor, findingOf, sheetOf, checkSheet}
 use Rattle.page_sheets.specs.Trees.{Finding, allShut, firstOpen, bytesAll}
-use Rattle.page_sheets.proofs.Agreed.{agree-at, pairs-of}
+use Rattle.page_sheets.proofs.Counterparts.{agree-at, pairs-of}
 use Rattle.page_sheets.proofs.Findings.{Fails, yes-found, yes-sound, no-found, opens-at, not-all}
 use Rattle.page_sheets.proofs.Fit.{Fit, fit-all}
-use Rattle.page_sheets.proofs.Inserted.{Puts, AllFrom, irrelevance-puts, computability-puts}
-use Rattle.page_sheets.proofs.Passes.{NoPasses}
-use Rattle.page_sheets.proofs.Shows.{shows, some-met}
-use Rattle.page_sheets.proofs.Writes.{RowsOk, no-written, header-passes, yes-written}
+use Rattle.page_sheets.proofs.InsertedValues.{Puts, AllFrom, irrelevance-puts, computability-puts}
+use Rattle.page_sheets.proofs.PassingSheets.{NoPasses}
+use Rattle.page_sheets.proofs.ShownContents.{shows, some-met}
+use Rattle.page_sheets.proofs.WrittenSheets.{RowsOk, no-written, header-passes, yes-written}
 use Rattle.page_meaning.specs.Trouble as trouble
 use Rattle.page_formulas.specs.Program as P
 
@@ -82,11 +83,11 @@ module _ (q : Question) (ok : Accepted q) (a : ℕ) where
   agrees : AgreeAll q (troubles q a) (formulas q a)
   agrees = formulas-agree q (usable q ok) a
 
-  pub sheet-passes : checkSheet q a (sheetOf q a) ≡ says (verdictFor (findingOf q a))
+  pub sheet-passes : checkSheet q a (sheetOf q a) ≡ good (verdictFor (findingOf q a))
   unfolding sheetOf findingOf
   sheet-passes = go (findingOf q a) refl
     where
-      go : (f : Finding) → findingOf q a ≡ f → checkSheet q a (sheetFor q a f) ≡ says (verdictFor f)
+      go : (f : Finding) → findingOf q a ≡ f → checkSheet q a (sheetFor q a f) ≡ good (verdictFor f)
       go (allShut ts) e = yes-written q a ts p e
       go (firstOpen i G x) e =
           let h = opens-at (formulas q a) i G x (no-found lastVertex (formulas q a) p i G x e) noFormula in

@@ -5,15 +5,16 @@ use mathlib.Core.Bool.{Bool, true, false}
 use mathlib.Core.List.{List, [], _∷_, _++_}
 use lib.ListN.{length, getD, drop, drop-of-length-le}
 use lib.Seq.{drop-cons}
+use Rattle.page_numbers.specs.Outcome.{refused}
 use Rattle.page_walks.specs.Grid.{Grid}
-use Rattle.page_walks.specs.Near.{Weights}
+use Rattle.page_walks.specs.Nearness.{Weights}
 use Rattle.page_formulas.specs.Formulas.{Formula}
-use Rattle.page_formulas.specs.Known.{known}
+use Rattle.page_formulas.specs.Knowledge.{known}
 use Rattle.page_formulas.specs.Program.{Place}
 use Rattle.page_sheets.specs.Facts.{decide}
-use Rattle.page_sheets.specs.Fast.{sideOf, calmNode, fast}
-use Rattle.page_sheets.specs.Grow.{join, openAt}
-use Rattle.page_sheets.specs.Tree.{andThen, refused, falseNode, cycleNode, check}
+use Rattle.page_sheets.specs.FastRule.{sideOf, calmNode, fast}
+use Rattle.page_sheets.specs.Growth.{join, openAt}
+use Rattle.page_sheets.specs.Tree.{andThen, falseNode, cycleNode, check}
 
 module _ (n : ℕ) (F : Formula) (ds : List Bool) (g : Grid) where
   -- nodes 1 and 2 ask nothing of the places left

@@ -3,27 +3,28 @@ use Prim.Native.Nat.{ℕ}
 use mathlib.Core.Path.{_≡_, refl}
 use mathlib.Core.List.{List, [], _∷_}
 use lib.Dec.{T}
+use Rattle.page_numbers.specs.Outcome.{good, refused}
 use Rattle.page_numbers.specs.Bytes.{int32, le32}
 use Rattle.page_numbers.specs.Numbers.{minZ}
 use Rattle.page_meaning.specs.Contents.{inRange}
 use Rattle.page_walks.specs.Grid.{tighten, blank}
 use Rattle.page_questions.specs.Layout.{total, tablesOf, visibleFrom, questionFrom}
 use Rattle.page_questions.specs.Reader.{many, byte, int, columnAt, comparisonAt, tokenAt, conditionAt, rowAt, insertAt, deleteAt, modeAt, modifyAt, ending, fromChange, fromCondition, fromVisible, fromColumns, fromWidths, fromChanged, fromKind, fromTables, fromVersion, readOf}
-use Rattle.page_formulas.specs.Compile.{compile}
+use Rattle.page_formulas.specs.Compilation.{compile}
 use Rattle.page_formulas.specs.Formulas.{among, after, hiddenRanges, boundedAll, differsOver, tabulate}
-use Rattle.page_formulas.specs.Known.{run3}
+use Rattle.page_formulas.specs.Knowledge.{run3}
 use Rattle.page_formulas.specs.Program.{run, places}
 use Rattle.page_sheets.specs.Facts.{confineAll}
 use Rattle.page_sheets.specs.Tree.{vertices, check}
 use Rattle.page_sheets.specs.Trees.{checkTrees}
 use Rattle.page_sheets.specs.Rows.{fixed}
-use Rattle.page_sheets.specs.Sheet.{Verdict, sayYes, sayNo, Answer, says, refusal, checkYes, checkFields, noEnd, checkRows, checkNo, checkSheet}
+use Rattle.page_sheets.specs.Sheet.{Verdict, sayYes, sayNo, Answer, checkYes, checkFields, noEnd, checkRows, checkNo, checkSheet}
 use Rattle.page_sheets.specs.Answers.{checkOf}
 use Rattle.page_sheets.specs.Twelve.{Claim, holds, shows, Case, bytesIn, numbers, sheetIn, twelve, agrees, test, testAll, Settled, TwelveSettled}
 use mathlib.Core.Logic.{inl, inr}
 use mathlib.Core.Bool.{_&&_}
 use Rattle.page_meaning.proofs.Truth.{and-l, and-r}
-use Rattle.page_questions.specs.Accepted.{Every}
+use Rattle.page_questions.specs.Guarantees.{Every}
 use Rattle.page_sheets.specs.Demands.{Askable}
 use Rattle.page_sheets.proofs.Demands.{pass-yes-proves, pass-no-breaks, verdict-by}
 
@@ -32,12 +33,12 @@ unfolding int32 le32 minZ inRange tighten blank total tablesOf visibleFrom quest
 tested = tt
 
 -- ---- from the test to the meaning
-says-it : (x : Answer) (v : Verdict) → T (agrees x v) → x ≡ says v
-says-it (says sayYes) sayYes t = refl
-says-it (says sayYes) sayNo t = absurd t
-says-it (says sayNo) sayYes t = absurd t
-says-it (says sayNo) sayNo t = refl
-says-it (refusal n o) v t = absurd t
+says-it : (x : Answer) (v : Verdict) → T (agrees x v) → x ≡ good v
+says-it (good sayYes) sayYes t = refl
+says-it (good sayYes) sayNo t = absurd t
+says-it (good sayNo) sayYes t = absurd t
+says-it (good sayNo) sayNo t = refl
+says-it (refused n o) v t = absurd t
 
 settled : (a : ℕ) (s : List ℕ) (c : Claim) → Askable a → T (test a s c) → Settled a s c
 settled a s (holds k trees) h t =

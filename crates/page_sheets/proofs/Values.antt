@@ -20,7 +20,7 @@ use Rattle.page_meaning.specs.Condition.{equal, holds}
 use Rattle.page_meaning.specs.Contents.{Values, look, Range, inRange, fits}
 use Rattle.page_meaning.proofs.Truth.{and-l, and-r, and-in, or-l, or-r}
 use Rattle.page_formulas.specs.Formulas.{among, tabulate}
-use Rattle.page_questions.specs.Accepted.{Every}
+use Rattle.page_questions.specs.Guarantees.{Every}
 use Rattle.page_sheets.specs.Rows.{bytesOfRow}
 
 pub read-first : (z : ℤ) (rest : List ℕ) → SFits w32 z → int32 (bytes4 (ofZ w32 z) ++ rest) 0 ≡ z

@@ -14,7 +14,7 @@ use Rattle.page_meaning.specs.Limits.{mostVertices}
 use Rattle.page_walks.specs.Grid.{Grid, weight}
 use Rattle.page_walks.specs.Walk.{closed}
 use Rattle.page_formulas.specs.Formulas.{Formula, formulas, noFormula}
-use Rattle.page_formulas.specs.Known.{Three, fails, passes, open?, known}
+use Rattle.page_formulas.specs.Knowledge.{Three, fails, passes, open?, known}
 use Rattle.page_formulas.specs.Program.{Place, places, truth}
 use Rattle.page_formulas.specs.Vertices.{Ranges, present}
 use Rattle.page_sheets.specs.Facts.{start, decide}

@@ -1,9 +1,9 @@
 pub mod Facts
 pub mod Tree
-pub mod Grow
+pub mod Growth
 pub mod Trees
 pub mod Rows
-pub mod Fast
+pub mod FastRule
 pub mod Sheet
 pub mod Answers
 pub mod Demands

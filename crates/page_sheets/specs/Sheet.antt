@@ -5,11 +5,12 @@ use mathlib.Core.List.{List, [], _∷_, _++_}
 use lib.ListN.{length, getD, drop}
 use lib.Dec.{eqb, leb, ltb}
 use lib.IntN.{ℤ}
+use Rattle.page_numbers.specs.Outcome.{Outcome, good, refused}
 use Rattle.page_meaning.specs.Limits.{mostColumns, mostVertices}
 use Rattle.page_meaning.specs.Contents.{Question}
 use Rattle.page_formulas.specs.Program.{truth}
 use Rattle.page_formulas.specs.Formulas.{noFormula, Formula, formulas}
-use Rattle.page_sheets.specs.Tree.{Outcome, passed, refused}
+use Rattle.page_sheets.specs.Tree.{Checked}
 use Rattle.page_sheets.specs.Trees.{checkTrees, Finding, allShut, firstOpen, writeTrees, bytesAll}
 use Rattle.page_sheets.specs.Rows.{fields, fieldAt, valueAt, readValues, fieldOk, noBytes}
 
@@ -27,10 +28,9 @@ abbrev pub verdictByte : Verdict → ℕ
 verdictByte sayYes = 0
 verdictByte sayNo = 1
 
--- of a verdict asked for, or a sheet checked: the verdict, or the number that says no and its place
-pub data Answer : Type 0 where
-  says : Verdict → Answer
-  refusal : ℕ → ℕ → Answer
+-- of a verdict asked for, or a sheet checked
+abbrev pub Answer : Type 0
+Answer = Outcome Verdict
 
 -- ---- the sheet
 
@@ -59,12 +59,12 @@ sheetOf q a = sheetFor q a (findingOf q a)
 -- FORMAT 8.1: a field is tested for its length, then for its value; the first fault is the answer, with the offset where the field starts:
 -- a field of so many bytes, is its value as said, the number that says no, and what the later fields come to
 abbrev pub field : List ℕ → ℕ → ℕ → Bool → ℕ → Answer → Answer
-field s at w ok number next = cond (leb (at + w) (length s)) (cond ok next (refusal number at)) (refusal 11 at)
+field s at w ok number next = cond (leb (at + w) (length s)) (cond ok next (refused number at)) (refused 11 at)
 
-abbrev pub yesEnd : Outcome → Answer
-yesEnd (passed o []) = says sayYes
-yesEnd (passed o (b ∷ r)) = refusal 16 0
-yesEnd (refused n o) = refusal n o
+abbrev pub yesEnd : Checked → Answer
+yesEnd (good (o, [])) = good sayYes
+yesEnd (good (o, b ∷ r)) = refused 16 0
+yesEnd (refused n o) = refused n o
 
 -- FORMAT 8.2: one tree for each formula
 unfoldable pub checkYes : List Formula → List ℕ → Answer
@@ -77,7 +77,7 @@ checkFields ok s (suc k) j next = let later = checkFields ok s k (suc j) next in
 
 -- FORMAT 8.3: a formula that isn't true at the values is 15 at offset 7; FORMAT 8.4: bytes that are left are 16, tested last
 unfoldable pub noEnd : Question → Formula → List ℕ → Answer
-noEnd q F s = cond (truth (readValues q F s) (F .program)) (cond (leb (length s) (fieldAt (fields q F))) (says sayNo) (refusal 16 0)) (refusal 15 7)
+noEnd q F s = cond (truth (readValues q F s) (F .program)) (cond (leb (length s) (fieldAt (fields q F))) (good sayNo) (refused 16 0)) (refused 15 7)
 
 -- the fields from the first value on, for formula i
 unfoldable pub checkRows : Question → ℕ → Formula → List ℕ → Answer

@@ -4,10 +4,11 @@ use mathlib.Core.Path.{_≡_}
 use mathlib.Core.Bool.{Bool, true, false, _&&_}
 use mathlib.Core.List.{List, [], _∷_, _++_}
 use lib.Dec.{eqb}
+use Rattle.page_numbers.specs.Outcome.{good, refused}
 use Rattle.page_meaning.specs.Contents.{Question}
-use Rattle.page_questions.specs.Reader.{good, readOf}
-use Rattle.page_questions.specs.Accepted.{Every}
-use Rattle.page_sheets.specs.Sheet.{Verdict, sayYes, sayNo, Answer, says, refusal, header}
+use Rattle.page_questions.specs.Reader.{readOf}
+use Rattle.page_questions.specs.Guarantees.{Every}
+use Rattle.page_sheets.specs.Sheet.{Verdict, sayYes, sayNo, Answer, header}
 use Rattle.page_sheets.specs.Answers.{verdictOf, checkOf}
 use Rattle.page_sheets.specs.Demands.{Meant, Broken, named, shownFirst, shownSecond}
 
@@ -130,11 +131,11 @@ twelve = case-a ∷ case-b ∷ case-c ∷ case-d ∷ case-e ∷ case-f ∷ case-
 -- ---- the test, and what it proves
 
 abbrev pub agrees : Answer → Verdict → Bool
-agrees (says sayYes) sayYes = true
-agrees (says sayYes) sayNo = false
-agrees (says sayNo) sayYes = false
-agrees (says sayNo) sayNo = true
-agrees (refusal n o) v = false
+agrees (good sayYes) sayYes = true
+agrees (good sayYes) sayNo = false
+agrees (good sayNo) sayYes = false
+agrees (good sayNo) sayNo = true
+agrees (refused n o) v = false
 
 -- the sheet passes with the verdict claimed
 abbrev pub test : ℕ → List ℕ → Claim → Bool
@@ -153,7 +154,7 @@ Settles a q (shows i values) = let s = sheetIn a (shows i values) in Broken (eqb
 pub record Settled (a : ℕ) (s : List ℕ) (c : Claim) : Type 0 where
   pub question : Question
   pub reads : readOf s ≡ good question
-  pub verdict : verdictOf a s ≡ says (verdictIn c)
+  pub verdict : verdictOf a s ≡ good (verdictIn c)
   pub settles : Settles a question c
 
 abbrev pub TwelveSettled : Type 0

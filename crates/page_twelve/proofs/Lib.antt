@@ -1,4 +1,4 @@
 pub mod Spans
 pub mod Tables
 pub mod Sheets
-pub mod Written
+pub mod WrittenSheets

@@ -5,15 +5,15 @@ use mathlib.Core.List.{List, [], _∷_, _++_}
 use Rattle.page_meaning.specs.Contents.{Question}
 use Rattle.page_formulas.specs.Formulas.{Formula, formulas, rowOf1}
 use Rattle.page_formulas.specs.Program.{Values}
-use Rattle.page_formulas.specs.Proper.{Proper}
-use Rattle.page_formulas.proofs.Proper.{formulas-proper}
-use Rattle.page_questions.specs.Accepted.{Every, Accepted}
-use Rattle.page_sheets.specs.Grow.{Growth, shut, openAt, growTree}
+use Rattle.page_formulas.specs.ProperFormulas.{Proper}
+use Rattle.page_formulas.proofs.ProperFormulas.{formulas-proper}
+use Rattle.page_questions.specs.Guarantees.{Every, Accepted}
+use Rattle.page_sheets.specs.Growth.{Growth, shut, openAt, growTree}
 use Rattle.page_sheets.specs.Rows.{putRow, secondRow, bytesOfRow, noBytes, Rowed}
 use Rattle.page_sheets.specs.Sheet.{lastVertex, header, sayNo, sheetFor, findingOf, sheetOf}
 use Rattle.page_sheets.specs.Trees.{Finding, allShut, firstOpen, before, writeTrees}
-use Rattle.page_sheets.proofs.Alike.{all-rowed, rows-alike}
-use Rattle.page_sheets.proofs.Fasts.{Here, Same}
+use Rattle.page_sheets.proofs.AlikeRows.{all-rowed, rows-alike}
+use Rattle.page_sheets.proofs.FastRule.{Here, Same}
 use Rattle.page_sheets.proofs.Fit.{fit}
 use Rattle.page_twelve.proofs.Tables.{tableTree, tree-tabled}
 

@@ -9,13 +9,13 @@ use lib.ListN.{getD}
 use lib.IntN.{ℤ, pos, _-ℤ_}
 use lib.Signed.{_≤ℤ_, ≤ℤ-refl}
 use Rattle.page_meaning.specs.Contents.{Range}
-use Rattle.page_walks.specs.Near.{Weights}
-use Rattle.page_formulas.specs.Proper.{Nonempty}
+use Rattle.page_walks.specs.Nearness.{Weights}
+use Rattle.page_formulas.specs.ProperFormulas.{Nonempty}
 use Rattle.page_formulas.specs.Vertices.{Ranges}
-use Rattle.page_questions.specs.Accepted.{Every}
+use Rattle.page_questions.specs.Guarantees.{Every}
 use Rattle.page_sheets.proofs.Fit.{to-true, to-false}
 use Rattle.page_sheets.proofs.SameFacts.{OfRanges}
-use Rattle.page_sheets.proofs.Spreads.{EndsAt, spread-ranges}
+use Rattle.page_sheets.proofs.RangeClosure.{EndsAt, spread-ranges}
 
 -- a range's ends; 0 where there is no vertex
 abbrev lowest : Option Range → ℤ

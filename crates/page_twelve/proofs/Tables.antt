@@ -8,17 +8,17 @@ use native.Mathlib.Omega.{arith}
 use lib.ListN.{getD}
 use lib.IntN.{ℤ}
 use Rattle.page_walks.specs.Grid.{Grid, weight, far}
-use Rattle.page_walks.specs.Near.{Weights}
+use Rattle.page_walks.specs.Nearness.{Weights}
 use Rattle.page_formulas.specs.Formulas.{Formula, tabulate}
-use Rattle.page_formulas.specs.Known.{Three, fails, passes, open?, known}
+use Rattle.page_formulas.specs.Knowledge.{Three, fails, passes, open?, known}
 use Rattle.page_formulas.specs.Program.{Values, Place, places}
-use Rattle.page_formulas.specs.Proper.{Nonempty, SmallPlace}
-use Rattle.page_questions.specs.Accepted.{Every}
+use Rattle.page_formulas.specs.ProperFormulas.{Nonempty, SmallPlace}
+use Rattle.page_questions.specs.Guarantees.{Every}
 use Rattle.page_sheets.specs.Facts.{start, taken, decide}
-use Rattle.page_sheets.specs.Fast.{after, calmNode, half, fast, sideOf}
-use Rattle.page_sheets.specs.Grow.{join, Growth, shut, openAt, growTree}
-use Rattle.page_sheets.proofs.FastAmong.{half-same, SameBelow, Ends, fast-table}
-use Rattle.page_sheets.proofs.Fasts.{Here, UpTo, Same, same-trans, join-same, fast-tree}
+use Rattle.page_sheets.specs.FastRule.{after, calmNode, half, fast, sideOf}
+use Rattle.page_sheets.specs.Growth.{join, Growth, shut, openAt, growTree}
+use Rattle.page_sheets.proofs.OwnVertices.{half-same, SameBelow, Ends, fast-table}
+use Rattle.page_sheets.proofs.FastRule.{Here, UpTo, Same, same-trans, join-same, fast-tree}
 use Rattle.page_sheets.proofs.Fit.{Fit, present-below}
 use Rattle.page_twelve.proofs.Spans.{span, span-ranges}
 

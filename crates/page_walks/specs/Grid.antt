@@ -1,5 +1,5 @@
 -- Facts as a grid of edge weights, rows of the edge's first vertex.
-use Prim.Native.Nat.{ℕ, zero, _≤_}
+use Prim.Native.Nat.{ℕ}
 use mathlib.Core.List.{List, []}
 use lib.ListN.{getD, set, replicate}
 use lib.IntN.{ℤ, pos}

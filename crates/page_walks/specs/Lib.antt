@@ -3,4 +3,4 @@ pub mod Grid
 pub mod Sizes
 pub mod Search
 pub mod Shortest
-pub mod Near
+pub mod Nearness

@@ -12,13 +12,13 @@ use Rattle.page_meaning.specs.Condition.{unequal}
 use Rattle.page_meaning.specs.Contents.{Mode}
 use Rattle.page_meaning.specs.Claims.{kept}
 use Rattle.page_formulas.specs.Program.{orI}
-use Rattle.page_formulas.specs.Compile.{comparison}
-use Rattle.page_formulas.specs.Compile as C
+use Rattle.page_formulas.specs.Compilation.{comparison}
+use Rattle.page_formulas.specs.Compilation as C
 use Rattle.page_formulas.specs.Formulas.{differsNew, differsOver}
 use Rattle.program.specs.Built.{Room, Builds}
-use Rattle.program.specs.Held.{Program}
-use Rattle.sights.specs.Seen.{flagsOf, shownFrom, visibleOf, modeIn, sightOf, Has, Usable}
-use Rattle.pieces.specs.Partway.{Partway, differsAt}
+use Rattle.program.specs.Formulas.{Program}
+use Rattle.sights.specs.Sights.{flagsOf, shownFrom, visibleOf, modeIn, sightOf, Has, Usable}
+use Rattle.pieces.specs.Pieces.{Partway, differsAt}
 use Rattle.sights.specs.declared.types.Sight.{Sight}
 use Rattle.sights.proofs.Sightings.{flag-at}
 use Rattle.pieces.proofs.Pieces.{begin, next, piece-room, piece, finish}

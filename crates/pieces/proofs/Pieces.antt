@@ -8,9 +8,9 @@ use lib.ListN.{length, getD, drop}
 use lib.Seq.{drop-cons}
 use Rattle.page_formulas.specs.Program as P
 use Rattle.program.specs.Built.{Room, Builds}
-use Rattle.program.specs.Held.{Program}
-use Rattle.program.proofs.Emits.{_then_, emits-none}
-use Rattle.pieces.specs.Partway.{Partway}
+use Rattle.program.specs.Formulas.{Program}
+use Rattle.program.proofs.Emission.{_then_, emits-none}
+use Rattle.pieces.specs.Pieces.{Partway}
 
 -- no instruction fits any room
 pub builds-none : {p : Program} {k l : ℕ} (n m : ℕ) → Room p k l → Builds p p n m []

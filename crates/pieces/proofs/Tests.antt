@@ -13,12 +13,12 @@ use Rattle.page_meaning.specs.Claims.{kept}
 use Rattle.question.specs.Held.{columnOf}
 use Rattle.question.specs.declared.types.Column.{Column}
 use Rattle.page_formulas.specs.Program as P
-use Rattle.page_formulas.specs.Compile as C
+use Rattle.page_formulas.specs.Compilation as C
 use Rattle.page_formulas.specs.Formulas.{newTerm, bounded, boundedNew, boundedAll}
 use Rattle.program.specs.Built.{Room, Builds}
-use Rattle.program.specs.Held.{Program}
-use Rattle.sights.specs.Seen.{noColumn, rowOf, modesOf, modeIn, sightOf, Usable, noRange}
-use Rattle.pieces.specs.Partway.{Partway, tableFrom, boundedAt}
+use Rattle.program.specs.Formulas.{Program}
+use Rattle.sights.specs.Sights.{noColumn, rowOf, modesOf, modeIn, sightOf, Usable, noRange}
+use Rattle.pieces.specs.Pieces.{Partway, tableFrom, boundedAt}
 use Rattle.sights.specs.declared.types.Sight.{Sight}
 use Rattle.sights.proofs.Sightings.{mode-from}
 use Rattle.pieces.proofs.Pieces.{begin, next, piece-room, piece, finish}

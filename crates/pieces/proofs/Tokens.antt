@@ -16,14 +16,14 @@ use Rattle.question.specs.declared.types.Token as declared
 use Rattle.question.specs.declared.types.Kind.the-variants.{Compare}
 use Rattle.question.specs.declared.types.Op.the-variants.{Less}
 use Rattle.question.specs.declared.types.Side.the-variants.{Constant}
-use Rattle.page_formulas.specs.Compile.{token, compile}
-use Rattle.page_formulas.specs.Compile as C
+use Rattle.page_formulas.specs.Compilation.{token, compile}
+use Rattle.page_formulas.specs.Compilation as C
 use Rattle.page_formulas.specs.Parts.{conditionProgram}
 use Rattle.page_formulas.specs.Costs.{conditionCost}
 use Rattle.program.specs.Built.{Room, Builds}
-use Rattle.sights.specs.Seen.{sightOf, Has}
-use Rattle.pieces.specs.Partway.{Partway, cost, pairs, costs, pairsOf, Ready}
-use Rattle.program.specs.Held.{Program}
+use Rattle.sights.specs.Sights.{sightOf, Has}
+use Rattle.pieces.specs.Pieces.{Partway, cost, pairs, costs, pairsOf, Compilable}
+use Rattle.program.specs.Formulas.{Program}
 use Rattle.sights.specs.declared.types.Sight.{Sight}
 use Rattle.pieces.proofs.Pieces.{begin, next, piece-room, piece, finish}
 
@@ -65,7 +65,7 @@ Tokens s c p now i =
     let ts = conditionOf c in
     Partway (conditionCost .instructions) (conditionCost .places) p now (costs (drop i ts)) (pairsOf (drop i ts)) (compile (sightOf s) (drop i ts)) (compile (sightOf s) ts)
 
-module _ (s : Sight) (c : Condition) (r : Ready (Has s) c) where
+module _ (s : Sight) (c : Condition) (r : Compilable (Has s) c) where
   tokens-length : length (conditionOf c) ≡ c .count
   tokens-length = simp length-map (length-take-le (c .count) (c .tokens) (omega (arith, r .long, r .few)))
 

@@ -1,8 +1,8 @@
 // Conditions, token by token.
 use limits::INSTRUCTIONS;
 use limits::PLACES;
-use program::build::compare;
-use program::build::emit;
+use program::instructions::compare;
+use program::instructions::emit;
 use program::types::End;
 use program::types::Joint;
 use question::types::Condition;
@@ -13,12 +13,12 @@ use sights::terms::term_at;
 use sights::types::Sight;
 ghost use Rattle.page_meaning.specs.WellFormed.{TokenUses};
 ghost use Rattle.question.specs.Held.{tokenOf, conditionOf};
-ghost use Rattle.page_formulas.specs.Compile as compiled;
+ghost use Rattle.page_formulas.specs.Compilation as compiled;
 ghost use Rattle.page_formulas.specs.Parts.{conditionProgram};
 ghost use Rattle.page_formulas.specs.Costs.{conditionCost};
 ghost use Rattle.program.specs.Built.{programOf, Room, Builds};
-ghost use Rattle.sights.specs.Seen.{sightOf, Has, Usable};
-ghost use Rattle.pieces.specs.Partway.{cost, pairs, Ready};
+ghost use Rattle.sights.specs.Sights.{sightOf, Has, Usable};
+ghost use Rattle.pieces.specs.Pieces.{cost, pairs, Compilable};
 
 pub fn token(
     kinds: &mut [u8; INSTRUCTIONS],
@@ -55,7 +55,7 @@ pub fn condition(
     s: Sight,
     c: Condition,
 ) -> End
-    requires { ⌜ Room (programOf (now kinds) (now left) (now right) (now most) at) (conditionCost .instructions) (conditionCost .places) × Usable s × Ready (Has s) c ⌝ }
+    requires { ⌜ Room (programOf (now kinds) (now left) (now right) (now most) at) (conditionCost .instructions) (conditionCost .places) × Usable s × Compilable (Has s) c ⌝ }
     ensures { λ r. ⌜ Builds (programOf (now (kinds .entry)) (now (left .entry)) (now (right .entry)) (now (most .entry)) at) (programOf (now (kinds .exit)) (now (left .exit)) (now (right .exit)) (now (most .exit)) r) (conditionCost .instructions) (conditionCost .places) (conditionProgram (sightOf s) (conditionOf c)) ⌝ }
 {
     let n = c.count;

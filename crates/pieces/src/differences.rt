@@ -2,8 +2,8 @@
 use crate::ranges::kept;
 use limits::INSTRUCTIONS;
 use limits::PLACES;
-use program::build::compare;
-use program::build::emit;
+use program::instructions::compare;
+use program::instructions::emit;
 use program::types::End;
 use program::types::Joint;
 use question::types::Op;
@@ -18,8 +18,8 @@ ghost use Rattle.page_formulas.specs.Program.{falseI};
 ghost use Rattle.page_formulas.specs.Costs.{differingCost};
 ghost use Rattle.page_formulas.specs.Formulas.{differsOver};
 ghost use Rattle.program.specs.Built.{programOf, Room, Builds};
-ghost use Rattle.sights.specs.Seen.{sightOf, modeIn, Has, Usable, visibleOf};
-ghost use Rattle.pieces.specs.Partway.{differsAt};
+ghost use Rattle.sights.specs.Sights.{sightOf, modeIn, Has, Usable, visibleOf};
+ghost use Rattle.pieces.specs.Pieces.{differsAt};
 
 // Column i; nothing where it is hidden or kept.
 pub fn differs_at(

@@ -2,8 +2,8 @@
 use limits::COLUMNS;
 use limits::INSTRUCTIONS;
 use limits::PLACES;
-use program::build::at_most;
-use program::build::emit;
+use program::instructions::at_most;
+use program::instructions::emit;
 use program::types::End;
 use program::types::Joint;
 use program::types::Term;
@@ -23,8 +23,8 @@ ghost use Rattle.question.specs.Held.{modeOf, columnOf};
 ghost use Rattle.page_formulas.specs.Formulas.{boundedAll};
 ghost use Rattle.page_formulas.specs.Formulas as trouble;
 ghost use Rattle.program.specs.Built.{programOf, Room, Builds, Near, termOf};
-ghost use Rattle.sights.specs.Seen.{rowOf, modesOf, Usable};
-ghost use Rattle.pieces.specs.Partway.{tableFrom, boundedAt};
+ghost use Rattle.sights.specs.Sights.{rowOf, modesOf, Usable};
+ghost use Rattle.pieces.specs.Pieces.{tableFrom, boundedAt};
 
 // Is it kept?
 pub fn kept(m: Mode) -> bool

@@ -1,4 +1,4 @@
-pub mod Emits
+pub mod Emission
 pub mod Weights
-pub mod Lends
+pub mod Loans
 pub mod Ranges

@@ -11,14 +11,14 @@ use lib.Signed.{_≤ℤ_}
 use Rattle.page_numbers.specs.Numbers.{up, dn}
 use Rattle.page_meaning.specs.Contents.{Range}
 use Rattle.page_meaning.specs.Limits.{mostVertices}
-use Rattle.page_questions.specs.Accepted.{Every}
+use Rattle.page_questions.specs.Guarantees.{Every}
 use Rattle.page_formulas.specs.Formulas.{Formula}
 use Rattle.page_formulas.specs.Vertices.{Ranges}
-use Rattle.page_formulas.specs.Proper.{SmallRange, Nonempty, billion}
+use Rattle.page_formulas.specs.ProperFormulas.{SmallRange, Nonempty, billion}
 use Rattle.program.specs.Lent.{Coded}
 use Rattle.program.specs.Compiled.{Compiled, Ranging, Ranged}
-use Rattle.program.specs.Held as types
-use Rattle.program.proofs.Lends.{flagged, lent-of, spanned-of}
+use Rattle.program.specs.Formulas as types
+use Rattle.program.proofs.Loans.{flagged, lent-of, spanned-of}
 
 -- ---- ranges by position
 

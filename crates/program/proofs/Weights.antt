@@ -8,10 +8,10 @@ use mir.Syntax.{w64}
 use mir.Val.{SFits}
 use Rattle.page_numbers.proofs.Machine.{machine, diff}
 use Rattle.page_formulas.specs.Program as P
-use Rattle.program.specs.Held.{Program}
+use Rattle.program.specs.Formulas.{Program}
 use Rattle.program.specs.declared.types.Term.{Term}
 use Rattle.program.specs.Built.{Room, Builds, Near}
-use Rattle.program.proofs.Emits.{_then_}
+use Rattle.program.proofs.Emission.{_then_}
 
 pub near-fits : {t : Term} → Near t → SFits w64 (t .offset)
 near-fits n = omega (arith, machine)

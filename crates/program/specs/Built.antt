@@ -8,7 +8,7 @@ use lib.Signed.{_≤ℤ_}
 use Rattle.page_meaning.specs.Limits.{mostDecisions}
 use Rattle.page_formulas.specs.Program as P
 use Rattle.page_formulas.specs.Costs.{mostInstructions}
-use Rattle.program.specs.Held.{Program}
+use Rattle.program.specs.Formulas.{Program}
 use Rattle.program.specs.declared.types.End.{End}
 use Rattle.program.specs.declared.types.Joint.{Joint}
 use Rattle.program.specs.declared.types.Joint.the-variants.{And, Or, Not, True, False}

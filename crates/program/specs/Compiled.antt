@@ -13,11 +13,11 @@ use Rattle.page_meaning.specs.Contents.{Range}
 use Rattle.page_walks.specs.Sizes.{least-weight, Bounded}
 use Rattle.page_formulas.specs.Vertices.{Ranges, present}
 use Rattle.page_formulas.specs.Formulas.{Formula}
-use Rattle.page_formulas.specs.Proper.{billion, Proper}
+use Rattle.page_formulas.specs.ProperFormulas.{billion, Proper}
 use Rattle.program.specs.Built.{Means}
-use Rattle.program.specs.Lent.{Shows}
+use Rattle.program.specs.Lent.{Flagged}
 use Rattle.program.specs.declared.types.Vertices.{Vertices}
-use Rattle.program.specs.Held as compiled
+use Rattle.program.specs.Formulas as compiled
 use Rattle.program.specs.declared.types.Outline.{Outline}
 
 -- vertex numbers up to the last range's; the flags say which are there; a vertex that is there has its range
@@ -52,7 +52,7 @@ pub record Fine (f : compiled.Formula) : Type 0 where
 -- which vertices there are beside 0, and their ranges
 pub record Spanned (rs : Ranges) (shown : List Bool) (lo hi : List ℤ) : Type 0 where
   pub few : length rs < mostVertices
-  pub shows : Shows shown rs
+  pub shows : Flagged shown rs
   pub lows : (k : ℕ) (g : Range) → getD rs k none ≡ some g → getD lo (suc k) (pos 0) ≡ g .lo
   pub highs : (k : ℕ) (g : Range) → getD rs k none ≡ some g → getD hi (suc k) (pos 0) ≡ g .hi
 

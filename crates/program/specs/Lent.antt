@@ -15,7 +15,7 @@ use Rattle.page_formulas.specs.Vertices.{Ranges, present}
 use Rattle.page_formulas.specs.Costs.{mostInstructions}
 
 -- the code's flags say which vertices the formula has
-pub record Shows (shown : List Bool) (rs : Ranges) : Type 0 where
+pub record Flagged (shown : List Bool) (rs : Ranges) : Type 0 where
   pub agree : (v : ℕ) → getD shown v false ≡ present rs v
 
 -- what the code may take for granted of its places: they are few, between vertices of the grid, and their weights are small

@@ -1,4 +1,4 @@
-pub mod Held
+pub mod Formulas
 pub mod Built
 pub mod Lent
 pub mod Compiled

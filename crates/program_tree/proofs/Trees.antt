@@ -11,12 +11,12 @@ use Rattle.page_formulas.specs.Program.{Values, Place, Program, place, test, pl
 use Rattle.page_formulas.specs.Kinds.{kindOf, kindsOf, nowhere}
 use Rattle.page_formulas.specs.Form.{Rises}
 use Rattle.page_formulas.specs.Formulas.{Formula}
-use Rattle.page_formulas.specs.Proper.{Proper}
+use Rattle.page_formulas.specs.ProperFormulas.{Proper}
 use Rattle.page_formulas.specs.Postfix.{says, firstOf, placesIn, valueAt}
 use Rattle.page_formulas.specs.Costs.{mostInstructions}
 use Rattle.page_meaning.specs.Limits.{mostDecisions}
 use Rattle.program.specs.Lent.{placeAt, Coded}
-use Rattle.program.proofs.Lends.{lent-place, kinds-long, places-long}
+use Rattle.program.proofs.Loans.{lent-place, kinds-long, places-long}
 use Rattle.page_sheets.specs.Facts.{taken}
 use Rattle.grid.specs.Edges.{Fact}
 use Rattle.facts.proofs.Places.{place-facts}

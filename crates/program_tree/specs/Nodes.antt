@@ -87,7 +87,7 @@ module _ (t : Tree) where
     pub one : kindAt j ≡ 3 → (0 < j) × (sizeAt (j - 1) < sizeAt j)
     pub two : 0 < kindAt j → kindAt j < 3 → (sizeAt (j - 1) < j) × (sizeAt (firstAt j) + sizeAt (j - 1) < sizeAt j)
 
-  pub record Laid : Type 0 where
+  pub record LaidRows : Type 0 where
     pub short : t .count ≤ mostInstructions
     pub few : t .last < mostVertices
     pub made : (j : ℕ) → j < t .count → Made j
@@ -98,7 +98,7 @@ module _ (t : Tree) where
 
 -- the tree is the program's
 pub record Tells (t : Tree) (p : Program) : Type 0 where
-  pub laid : Laid t
+  pub laid : LaidRows t
   pub some : 0 < t .count
   pub whole : sizeAt t (t .count - 1) ≤ mostInstructions
   pub describes : Describes t (valueAt p)

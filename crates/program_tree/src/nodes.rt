@@ -4,7 +4,6 @@ use crate::operands::size_of;
 use crate::types::ROW;
 use limits::INSTRUCTIONS;
 use limits::PLACES;
-ghost use Prim.Native.Nat.{_≤_};
 ghost use mathlib.Core.Path.{_≡_};
 ghost use mathlib.Core.List.{[], _∷_};
 ghost use lib.ListN.{length};

@@ -11,7 +11,7 @@ use printing::words;
 fn verdict(asked: u8, question: &[u8]) {
     let judged = answers::verdict(asked, question);
     match judged {
-        Judged::Says(verdict) => words::verdict(verdict),
+        Judged::Good(verdict) => words::verdict(verdict),
         Judged::Refused(_, _) => text(b"refused"),
     }
 }

@@ -3,11 +3,12 @@ use Prim.Native.Nat.{ℕ, _+_, _≤_, _<_}
 use mathlib.Core.Path.{_≡_}
 use mathlib.Core.List.{List, map}
 use lib.ListN.{take}
+use Rattle.page_numbers.specs.Outcome.{good, refused}
 use Rattle.page_meaning.specs.Limits.{mostTables, mostColumns, mostTokens, mostRows}
 use Rattle.page_meaning.specs.Condition as C
 use Rattle.page_meaning.specs.Contents as M
 use Rattle.page_questions.specs.Layout as L
-use Rattle.page_questions.specs.Reader.{Read, good, bad}
+use Rattle.page_questions.specs.Reader.{Read}
 use Rattle.question.specs.declared.types.Op.{Op}
 use Rattle.question.specs.declared.types.Op.the-variants.{Less, AtMost, Equal, AtLeast, More, Unequal}
 use Rattle.question.specs.declared.types.Side.{Side}
@@ -128,7 +129,7 @@ pub record Held (q : Question) : Type 0 where
 -- the number and the place of each answer (FORMAT 4.3)
 abbrev pub meantBy : Answer → Question → Read
 meantBy Good q = good (questionOf q)
-meantBy (Refused n p) q = bad n p
+meantBy (Refused n p) q = refused n p
 
 abbrev pub meant : Reading → Read
 meant r = meantBy (r .answer) (r .question)

@@ -2,9 +2,10 @@
 use Prim.Native.Nat.{ℕ}
 use mathlib.Core.List.{List, map}
 use lib.ListN.{take, drop}
+use Rattle.page_numbers.specs.Outcome.{Outcome, refused}
 use Rattle.page_meaning.specs.Contents as M
 use Rattle.page_questions.specs.Layout as L
-use Rattle.page_questions.specs.Reader.{Outcome, bad, At, found}
+use Rattle.page_questions.specs.Reader.{At, found}
 use Rattle.question.specs.Held.{columnOf}
 use Rattle.question.specs.declared.types.Answer.{Answer}
 use Rattle.question.specs.declared.types.Answer.the-variants.{Good, Refused}
@@ -13,7 +14,7 @@ use Rattle.question.specs.declared.types.Column.{Column}
 -- n elements of an array and the offset after them, or a refusal
 abbrev pub listOf : {A B : Type 0} → (A → B) → Answer → ℕ → List A → ℕ → Outcome (At (List B))
 listOf g Good n xs q = found (map g (take n xs)) q
-listOf g (Refused m p) n xs q = bad m p
+listOf g (Refused m p) n xs q = refused m p
 
 -- where the answer is good, P
 abbrev pub IfGood : Answer → Type 0 → Type 0

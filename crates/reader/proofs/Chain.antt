@@ -6,8 +6,9 @@ use Prim.Native.Nat.{ℕ, zero, suc, _+_, _≤_}
 use native.Mathlib.Omega.{arith}
 use lib.ListN.{take, drop}
 use lib.Seq.{take-take}
+use Rattle.page_numbers.specs.Outcome.{refused}
 use Rattle.page_questions.specs.Layout as L
-use Rattle.page_questions.specs.Reader.{Read, bad, changeAt, fromVisible, fromCondition}
+use Rattle.page_questions.specs.Reader.{Read, changeAt, fromVisible, fromCondition}
 use Rattle.question.specs.Held.{Reads, ShapeHeld, widthsOf, columnOf}
 use Rattle.question.specs.Parts.{rangesAt}
 use Rattle.tables.specs.Shapes.{some}
@@ -30,7 +31,7 @@ module _ (s : List ℕ) (kind changed : ℕ) (ws : List ℕ) (cs : List L.Column
       clash x = let y : _≡_ {A = ℕ} 0 1 = cc in omega arith
   when-seen (i ∷ is) e h = rw e refl
 
-  pub when-unseen : (l : List ℕ) → L.visibleFrom 0 cs ≡ l → some l ≡ false → bad 8 p ≡ fromVisible s kind changed ws cs p
+  pub when-unseen : (l : List ℕ) → L.visibleFrom 0 cs ≡ l → some l ≡ false → refused 8 p ≡ fromVisible s kind changed ws cs p
   unfolding fromVisible
   when-unseen [] e h = rw e refl
   when-unseen (i ∷ is) e h = absurd (clash h)

@@ -4,21 +4,22 @@ use mathlib.Core.Logic.{_↔_}
 use mathlib.Core.List.{List}
 use Prim.Native.Nat.{ℕ}
 use native.Mathlib.Omega.{arith}
+use Rattle.page_numbers.specs.Outcome.{good, refused}
 use Rattle.page_meaning.specs.Contents as M
-use Rattle.page_questions.specs.Reader.{good, bad, readOf}
+use Rattle.page_questions.specs.Reader.{readOf}
 use Rattle.question.specs.Held.{questionOf, meantBy, Reads}
-use Rattle.page_questions.specs.Accepted.{Accepted}
+use Rattle.page_questions.specs.Guarantees.{Accepted}
 use Rattle.page_questions.specs.Fields.{fieldsOf, questionIn}
 use Rattle.page_questions.specs.Faults.{AllSaid, FirstFault}
 use Rattle.question.specs.declared.types.Answer.{Answer}
 use Rattle.question.specs.declared.types.Answer.the-variants.{Good, Refused}
 use Rattle.question.specs.declared.types.Question.{Question}
 use Rattle.question.specs.declared.types.Reading.{Reading}
-use Rattle.page_questions.proofs.Accepts.{accepted}
-use Rattle.page_questions.proofs.Refusals.{refused, taken}
+use Rattle.page_questions.proofs.Guarantees.{accepted}
+use Rattle.page_questions.proofs.Refusals.{refused-first, taken}
 
 -- an answer is known by what it means
-is-refused : (a : Answer) (q : Question) (n p : ℕ) → meantBy a q ≡ bad n p → a ≡ Refused n p
+is-refused : (a : Answer) (q : Question) (n p : ℕ) → meantBy a q ≡ refused n p → a ≡ Refused n p
 is-refused Good q n p e = absurd (let z : _≡_ {A = ℕ} 0 1 = cc in omega arith)
 is-refused (Refused m r) q n p e = cc
 
@@ -36,10 +37,10 @@ module _ (s : List ℕ) (r : Reading) (h : Reads r (readOf s)) where
   read-refuses n p = (forth, back)
     where
       forth : r .answer ≡ Refused n p → FirstFault s n p
-      forth e = refused s n p .0 (sym (h .meaning) ∙ ap (λ a. meantBy a (r .question)) e)
+      forth e = refused-first s n p .0 (sym (h .meaning) ∙ ap (λ a. meantBy a (r .question)) e)
 
       back : FirstFault s n p → r .answer ≡ Refused n p
-      back x = is-refused (r .answer) (r .question) n p (h .meaning ∙ refused s n p .1 x)
+      back x = is-refused (r .answer) (r .question) n p (h .meaning ∙ refused-first s n p .1 x)
 
   -- taken exactly when no field is at fault
   pub read-takes : (r .answer ≡ Good) ↔ AllSaid s 0 (fieldsOf s)

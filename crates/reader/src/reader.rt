@@ -3,12 +3,13 @@ ghost use Prim.Native.Nat.{_≤_, _<_};
 ghost use mathlib.Core.Path.{_≡_};
 ghost use mathlib.Core.List.{map};
 ghost use lib.ListN.{length, take};
+ghost use Rattle.page_numbers.specs.Outcome.{refused};
 ghost use Rattle.page_meaning.specs.Limits.{mostTables, mostColumns, mostTokens};
-ghost use Rattle.page_questions.specs.Reader.{bad, ending, fromChange, fromCondition, fromVisible, fromColumns, fromWidths, fromChanged, fromKind, fromTables, fromVersion};
+ghost use Rattle.page_questions.specs.Reader.{ending, fromChange, fromCondition, fromVisible, fromColumns, fromWidths, fromChanged, fromKind, fromTables, fromVersion};
 ghost use Rattle.question.specs.Held.{Reads, ShapeHeld, ChangeHeld, questionOf, widthsOf, columnOf, conditionOf};
 use changes::change::change_at;
 use changes::change::no_change;
-use fields::fields::Byte;
+use fields::fields::ByteRead;
 use fields::fields::byte_at;
 use limits::COLUMNS;
 use limits::PAST_TABLES;
@@ -29,7 +30,7 @@ use tokens::condition::condition_at;
 
 // A refusal: its question is blank.
 pub fn refusal(n: u8, at: usize) -> Reading
-    ensures { λ r. ⌜ Reads r (bad n at) ⌝ }
+    ensures { λ r. ⌜ Reads r (refused n at) ⌝ }
 {
     Reading {
         answer: Answer::Refused(n, at),
@@ -94,11 +95,11 @@ fn from_change(
     requires { ⌜ condition .count ≤ mostTokens ⌝ }
     ensures { λ r. ⌜ Reads r (fromChange (now (s .entry)) kind (shape .changed) (widthsOf shape) (map columnOf (take (shape .total) columns)) (conditionOf condition) p) ⌝ }
 {
-    let deed = change_at(s, kind, columns, shape.first, shape.width, p);
-    let answer = deed.answer;
-    let change = deed.change;
+    let read = change_at(s, kind, columns, shape.first, shape.width, p);
+    let answer = read.answer;
+    let change = read.change;
     match answer {
-        Answer::Good => ended(s, shape, columns, condition, change, deed.next),
+        Answer::Good => ended(s, shape, columns, condition, change, read.next),
         Answer::Refused(n, at) => refusal(n, at),
     }
 }
@@ -108,11 +109,11 @@ fn from_condition(s: &[u8], kind: u8, shape: Shape, columns: [Column; COLUMNS], 
     requires { ⌜ length columns ≡ mostColumns ⌝ }
     ensures { λ r. ⌜ Reads r (fromCondition (now (s .entry)) kind (shape .changed) (widthsOf shape) (map columnOf (take (shape .total) columns)) p) ⌝ }
 {
-    let clause = condition_at(s, 0, shape.total, p);
-    let answer = clause.answer;
-    let condition = clause.condition;
+    let read = condition_at(s, 0, shape.total, p);
+    let answer = read.answer;
+    let condition = read.condition;
     match answer {
-        Answer::Good => from_change(s, kind, shape, columns, condition, clause.next),
+        Answer::Good => from_change(s, kind, shape, columns, condition, read.next),
         Answer::Refused(n, at) => refusal(n, at),
     }
 }
@@ -133,11 +134,11 @@ fn from_columns(s: &[u8], kind: u8, shape: Shape, p: usize) -> Reading
     requires { ⌜ ShapeHeld shape ⌝ }
     ensures { λ r. ⌜ Reads r (fromColumns (now (s .entry)) kind (shape .changed) (widthsOf shape) p) ⌝ }
 {
-    let pillars = columns_at(s, shape.total, p);
-    let answer = pillars.answer;
-    let columns = pillars.columns;
+    let read = columns_at(s, shape.total, p);
+    let answer = read.answer;
+    let columns = read.columns;
     match answer {
-        Answer::Good => from_visible(s, kind, shape, columns, pillars.next),
+        Answer::Good => from_visible(s, kind, shape, columns, read.next),
         Answer::Refused(n, at) => refusal(n, at),
     }
 }
@@ -165,8 +166,8 @@ fn from_changed(s: &[u8], tables: usize, kind: u8, p: usize) -> Reading
 {
     let b = byte_at(s, 4, 0, tables, p);
     match b {
-        Byte::Is(changed, q) => from_widths(s, tables, kind, changed as usize, q),
-        Byte::Not(n, at) => refusal(n, at),
+        ByteRead::Good(changed, q) => from_widths(s, tables, kind, changed as usize, q),
+        ByteRead::Refused(n, at) => refusal(n, at),
     }
 }
 
@@ -176,8 +177,8 @@ fn from_kind(s: &[u8], tables: usize, p: usize) -> Reading
 {
     let b = byte_at(s, 4, 1, 4, p);
     match b {
-        Byte::Is(kind, q) => from_changed(s, tables, kind, q),
-        Byte::Not(n, at) => refusal(n, at),
+        ByteRead::Good(kind, q) => from_changed(s, tables, kind, q),
+        ByteRead::Refused(n, at) => refusal(n, at),
     }
 }
 
@@ -186,8 +187,8 @@ fn from_tables(s: &[u8], p: usize) -> Reading
 {
     let b = byte_at(s, 4, 1, PAST_TABLES, p);
     match b {
-        Byte::Is(tables, q) => from_kind(s, tables as usize, q),
-        Byte::Not(n, at) => refusal(n, at),
+        ByteRead::Good(tables, q) => from_kind(s, tables as usize, q),
+        ByteRead::Refused(n, at) => refusal(n, at),
     }
 }
 

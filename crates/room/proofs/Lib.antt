@@ -1,1 +1,1 @@
-pub mod Puts
+pub mod PutBytes

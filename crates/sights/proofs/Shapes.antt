@@ -16,7 +16,7 @@ use Rattle.question.specs.Held as H
 use Rattle.question.specs.declared.types.Question.{Question}
 use Rattle.question.specs.declared.types.Column.{Column}
 use Rattle.page_formulas.specs.Formulas.{among}
-use Rattle.sights.specs.Seen.{noRange, Whole, noColumn}
+use Rattle.sights.specs.Sights.{noRange, Whole, noColumn}
 
 -- ---- its tables
 

@@ -19,10 +19,10 @@ use Rattle.question.specs.declared.types.Question.{Question}
 use Rattle.question.specs.declared.types.Mode.the-variants.{Keep}
 use Rattle.question.specs.declared.types.Setting.{Setting}
 use Rattle.page_formulas.specs.Program as P
-use Rattle.page_formulas.specs.Compile.{constantTerm, plus}
+use Rattle.page_formulas.specs.Compilation.{constantTerm, plus}
 use Rattle.page_formulas.specs.Formulas.{vertex}
 use Rattle.program.specs.Built.{termOf, Near}
-use Rattle.sights.specs.Seen.{noColumn, rowSight, vertexOf, flagsOf, rowOf, modesOf, modeIn, sightOf, There, Whole, Has, Usable, Stands, ModeReads}
+use Rattle.sights.specs.Sights.{noColumn, rowSight, vertexOf, flagsOf, rowOf, modesOf, modeIn, sightOf, There, Whole, Has, Usable, Stands, ModeReads}
 use Rattle.sights.specs.declared.types.Sight.{Sight}
 use Rattle.program.specs.declared.types.Term.{Term}
 use Rattle.sights.proofs.Shapes.{visible-is, columns-length}

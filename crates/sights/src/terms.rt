@@ -11,9 +11,9 @@ ghost use Prim.Native.Nat.{_<_, _≤_};
 ghost use Rattle.page_meaning.specs.Limits.{mostColumns};
 ghost use Rattle.page_meaning.specs.WellFormed.{SideUses};
 ghost use Rattle.question.specs.Held.{modeOf, sideOf, questionOf};
-ghost use Rattle.page_formulas.specs.Compile.{constantTerm, sideTerm};
+ghost use Rattle.page_formulas.specs.Compilation.{constantTerm, sideTerm};
 ghost use Rattle.program.specs.Built.{termOf, Near};
-ghost use Rattle.sights.specs.Seen.{rowSight, vertexOf, rowOf, modeIn, sightOf, There, Whole, Has, Usable, Stands, ModeReads};
+ghost use Rattle.sights.specs.Sights.{rowSight, vertexOf, rowOf, modeIn, sightOf, There, Whole, Has, Usable, Stands, ModeReads};
 
 // FORMAT 5.4: column i of the first row is vertex 1 + i; of the second too where it is visible, and else 1 + n + i of n columns.
 pub fn vertex_of(second: bool, visible: bool, n: usize, i: u8) -> u8

@@ -1,1 +1,1 @@
-pub mod Backs
+pub mod SumsBack

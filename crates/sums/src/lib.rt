@@ -6,7 +6,7 @@ ghost use Rattle.page_meaning.specs.Limits.{mostVertices};
 ghost use Rattle.page_walks.specs.Grid.{weight, farN};
 ghost use Rattle.page_walks.specs.Sizes.{filled, wide, Sized, RowWithin, AllWithin};
 ghost use Rattle.page_walks.specs.Search.{least, best};
-ghost use Rattle.sums.specs.Back.{Back};
+ghost use Rattle.sums.specs.SumsBack.{Back};
 use grid::lesser;
 use limits::VERTICES;
 

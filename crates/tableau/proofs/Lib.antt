@@ -1,3 +1,3 @@
-pub mod Picks
+pub mod Choices
 pub mod Splits
 pub mod Roots

@@ -11,14 +11,14 @@ use Rattle.page_walks.specs.Sizes.{Sized}
 use Rattle.page_walks.specs.Walk.{Sat}
 use Rattle.page_formulas.specs.Formulas.{Formula}
 use Rattle.page_formulas.specs.Program.{Program}
-use Rattle.page_formulas.specs.Proper.{Proper}
+use Rattle.page_formulas.specs.ProperFormulas.{Proper}
 use Rattle.page_formulas.specs.Costs.{mostInstructions}
 use Rattle.program.specs.Compiled.{Ranging, Ranged}
 use Rattle.program.proofs.Ranges.{ranged}
-use Rattle.page_sheets.proofs.Settles.{settle, truth-settle}
+use Rattle.page_sheets.proofs.AbsentVertices.{settle, truth-settle}
 use Rattle.spreads.specs.Spread.{spread}
-use Rattle.spreads.proofs.Spreads.{begun-least, begun-far, sat-range, range-sat}
-use Rattle.goals.specs.Closed.{Tight}
+use Rattle.spreads.proofs.RangeClosure.{begun-least, begun-far, sat-range, range-sat}
+use Rattle.goals.specs.Closures.{Tight}
 use Rattle.page_formulas.specs.Postfix.{valueAt}
 use Rattle.program_tree.specs.Nodes.{sizeAt, Tells}
 use Rattle.goals.specs.Goals.{goal, stackOf, total, held, Opens, Solves, Standing, TrueAt, TrueUnder}

@@ -14,7 +14,7 @@ use Rattle.page_formulas.specs.Program.{Values}
 use Rattle.program_tree.specs.Nodes.{Tree, sizeAt, firstAt, Describes}
 use Rattle.goals.specs.Goals.{Goal, goal, held, Opens, Same, Waits, Solves, Standing, Leads, Takes}
 use Rattle.tableau_choice.specs.Choices.{Operands}
-use Rattle.goals.proofs.Turns.{smaller, met-on, met-back, other}
+use Rattle.goals.proofs.AskedInstructions.{smaller, met-on, met-back, other}
 
 pub opens-same : (r : Bool) (l : List ℤ) (S T : Values → Type 0) → Same S T → Opens r l S → Opens r l T
 opens-same true l S T e o = e (held l) .0 o

@@ -14,10 +14,10 @@ ghost use Rattle.page_meaning.specs.Limits.{mostVertices};
 ghost use Rattle.page_walks.specs.Sizes.{Sized};
 ghost use Rattle.page_formulas.specs.Program.{Program};
 ghost use Rattle.page_formulas.specs.Formulas.{Formula};
-ghost use Rattle.page_formulas.specs.Proper.{Proper};
+ghost use Rattle.page_formulas.specs.ProperFormulas.{Proper};
 ghost use Rattle.program.specs.Compiled.{Compiled, Fine, formulaOf};
 ghost use Rattle.program_tree.specs.Nodes.{treeOf, Tells};
-ghost use Rattle.goals.specs.Closed.{Tight};
+ghost use Rattle.goals.specs.Closures.{Tight};
 ghost use Rattle.goals.specs.Goals.{TrueAt, TrueUnder, Opens};
 
 // Of a formula's tree, under the facts of a closure, which the search takes for its own.

@@ -1,2 +1,2 @@
 pub mod Stands
-pub mod Sifts
+pub mod SiftedGoals

@@ -2,8 +2,8 @@
 use Prim.Native.Nat.{ℕ, zero, suc, _≤_, _<_}
 use mathlib.Core.Path.{_≡_, refl, sym, ap, ap₂, _∙_}
 use native.Mathlib.Omega.{arith}
-use Rattle.page_formulas.specs.Known.{Three}
-use Rattle.views.specs.Seen.{threeBy}
+use Rattle.page_formulas.specs.Knowledge.{Three}
+use Rattle.views.specs.Views.{threeBy}
 use Rattle.tableau_sieve.specs.Stands.{standBy}
 use Rattle.tableau_sieve.specs.declared.types.Stand.the-variants.{Done, Dead, First, Second, Open}
 

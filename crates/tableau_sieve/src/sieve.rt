@@ -18,7 +18,7 @@ ghost use lib.ListN.{length};
 ghost use Rattle.page_formulas.specs.Costs.{mostInstructions};
 ghost use Rattle.program_tree.specs.Nodes.{treeOf};
 ghost use Rattle.goals.specs.Goals.{goalOf, stackOf, Standing, Takes, Sifts};
-ghost use Rattle.views.specs.Seen.{threeBy, Sees};
+ghost use Rattle.views.specs.Views.{threeBy, Sees};
 ghost use Rattle.tableau_sieve.specs.Stands.{standOf, sifted};
 
 // What is known of two operands of which one is enough.

@@ -6,15 +6,16 @@ use mathlib.Core.List.{List, [], _∷_}
 use lib.Dec.{eqb}
 use lib.IntN.{ℤ}
 use lib.ListN.{length, take, getD}
+use Rattle.page_numbers.specs.Outcome.{Outcome, refused}
 use Rattle.page_meaning.specs.Limits.{mostTables, mostColumns}
 use Rattle.page_questions.specs.Layout as L
-use Rattle.page_questions.specs.Reader.{Outcome, bad, At, found, andThen, byte, int, upTo, farthest}
+use Rattle.page_questions.specs.Reader.{At, found, andThen, byte, int, upTo, farthest}
 use Rattle.question.specs.Held.{columnOf}
 use Rattle.question.specs.Parts.{listOf, IfGood}
-use Rattle.tables.specs.declared.columns.Pillar.{Pillar}
-use Rattle.tables.specs.declared.columns.Pillar.the-variants as pillar
-use Rattle.tables.specs.declared.columns.Pillars.{Pillars}
-use Rattle.tables.specs.declared.widths.Widths.{Widths}
+use Rattle.tables.specs.declared.columns.ColumnRead.{ColumnRead}
+use Rattle.tables.specs.declared.columns.ColumnRead.the-variants as columnRead
+use Rattle.tables.specs.declared.columns.ColumnsRead.{ColumnsRead}
+use Rattle.tables.specs.declared.widths.WidthsRead.{WidthsRead}
 
 -- ---- widths
 
@@ -27,15 +28,15 @@ pub record Counted (n : ℕ) (widths : List ℕ) (total : ℕ) : Type 0 where
   pub each : (j : ℕ) → j < n → 1 ≤ getD widths j 0
 
 -- n widths were read, and o is what the definition gives for them
-pub record WidthsRead (n : ℕ) (r : Widths) (o : Outcome (At (List ℕ))) : Type 0 where
+pub record MeansWidths (n : ℕ) (r : WidthsRead) (o : Outcome (At (List ℕ))) : Type 0 where
   pub meaning : listOf (λ (w : ℕ). w) (r .answer) n (r .widths) (r .next) ≡ o
   pub counted : IfGood (r .answer) (Counted n (r .widths) (r .total))
 
 -- ---- columns
 
-abbrev pub pillarOf : Pillar → Outcome (At L.Column)
-pillarOf (pillar.Is c q) = found (columnOf c) q
-pillarOf (pillar.Not n p) = bad n p
+abbrev pub columnMeant : ColumnRead → Outcome (At L.Column)
+columnMeant (columnRead.Good c q) = found (columnOf c) q
+columnMeant (columnRead.Refused n p) = refused n p
 
 -- a column, from its hi on
 unfoldable pub highAt : List ℕ → ℤ → ℕ → Outcome (At L.Column)
@@ -45,7 +46,7 @@ highAt s lo p =
     found (record { range = record { lo = lo; hi = hi }; shown = eqb v 1 }) p
 
 -- n columns were read, and o is what the definition gives for them
-pub record PillarsRead (n : ℕ) (r : Pillars) (o : Outcome (At (List L.Column))) : Type 0 where
+pub record MeansColumns (n : ℕ) (r : ColumnsRead) (o : Outcome (At (List L.Column))) : Type 0 where
   pub meaning : listOf columnOf (r .answer) n (r .columns) (r .next) ≡ o
   pub sized : length (r .columns) ≡ mostColumns
 

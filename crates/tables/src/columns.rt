@@ -7,9 +7,9 @@ ghost use Rattle.page_meaning.specs.Limits.{mostColumns};
 ghost use Rattle.page_questions.specs.Layout.{visibleFrom};
 ghost use Rattle.page_questions.specs.Reader.{columnAt, many};
 ghost use Rattle.question.specs.Held.{columnOf};
-ghost use Rattle.tables.specs.Shapes.{pillarOf, highAt, PillarsRead, some};
-use fields::fields::Byte;
-use fields::fields::Number;
+ghost use Rattle.tables.specs.Shapes.{columnMeant, highAt, MeansColumns, some};
+use fields::fields::ByteRead;
+use fields::fields::NumberRead;
 use fields::fields::byte_at;
 use fields::fields::number_at;
 use limits::COLUMNS;
@@ -17,21 +17,21 @@ use question::types::Answer;
 use question::types::Column;
 
 // A column and the offset after it, or a refusal.
-pub enum Pillar {
-    Is(Column, usize),
-    Not(u8, usize),
+pub enum ColumnRead {
+    Good(Column, usize),
+    Refused(u8, usize),
 }
 
 // A column from its hi on.
-fn high_at(s: &[u8], lo: i32, p: usize) -> Pillar
-    ensures { λ r. ⌜ pillarOf r ≡ highAt (now (s .entry)) lo p ⌝ }
+fn high_at(s: &[u8], lo: i32, p: usize) -> ColumnRead
+    ensures { λ r. ⌜ columnMeant r ≡ highAt (now (s .entry)) lo p ⌝ }
 {
     let v = number_at(s, 5, lo, 1000000000, p);
     match v {
-        Number::Is(hi, q) => {
+        NumberRead::Good(hi, q) => {
             let b = byte_at(s, 4, 0, 2, q);
             match b {
-                Byte::Is(shown, next) => Pillar::Is(
+                ByteRead::Good(shown, next) => ColumnRead::Good(
                     Column {
                         lo: lo,
                         hi: hi,
@@ -39,33 +39,33 @@ fn high_at(s: &[u8], lo: i32, p: usize) -> Pillar
                     },
                     next,
                 ),
-                Byte::Not(n, at) => Pillar::Not(n, at),
+                ByteRead::Refused(n, at) => ColumnRead::Refused(n, at),
             }
         }
-        Number::Not(n, at) => Pillar::Not(n, at),
+        NumberRead::Refused(n, at) => ColumnRead::Refused(n, at),
     }
 }
 
-fn column_at(s: &[u8], p: usize) -> Pillar
-    ensures { λ r. ⌜ pillarOf r ≡ columnAt (now (s .entry)) p ⌝ }
+fn column_at(s: &[u8], p: usize) -> ColumnRead
+    ensures { λ r. ⌜ columnMeant r ≡ columnAt (now (s .entry)) p ⌝ }
 {
     let v = number_at(s, 5, -1000000000, 1000000000, p);
     match v {
-        Number::Is(lo, q) => high_at(s, lo, q),
-        Number::Not(n, at) => Pillar::Not(n, at),
+        NumberRead::Good(lo, q) => high_at(s, lo, q),
+        NumberRead::Refused(n, at) => ColumnRead::Refused(n, at),
     }
 }
 
 // Columns and the next offset, or a refusal.
-pub struct Pillars {
+pub struct ColumnsRead {
     pub answer: Answer,
     pub columns: [Column; COLUMNS],
     pub next: usize,
 }
 
-pub fn columns_at(s: &[u8], n: usize, p: usize) -> Pillars
+pub fn columns_at(s: &[u8], n: usize, p: usize) -> ColumnsRead
     requires { ⌜ n ≤ mostColumns ⌝ }
-    ensures { λ r. ⌜ PillarsRead n r (many (λ cs q. columnAt (now (s .entry)) q) n [] p) ⌝ }
+    ensures { λ r. ⌜ MeansColumns n r (many (λ cs q. columnAt (now (s .entry)) q) n [] p) ⌝ }
 {
     let mut columns = [Column {
         lo: 0,
@@ -75,15 +75,15 @@ pub fn columns_at(s: &[u8], n: usize, p: usize) -> Pillars
     let mut next = p;
     let mut i = 0;
     while i < n {
-        let pillar = column_at(s, next);
-        match pillar {
-            Pillar::Is(column, q) => {
+        let read = column_at(s, next);
+        match read {
+            ColumnRead::Good(column, q) => {
                 columns[i] = column;
                 next = q;
                 i += 1;
             }
-            Pillar::Not(m, at) => {
-                return Pillars {
+            ColumnRead::Refused(m, at) => {
+                return ColumnsRead {
                     answer: Answer::Refused(m, at),
                     columns: columns,
                     next: at,
@@ -91,7 +91,7 @@ pub fn columns_at(s: &[u8], n: usize, p: usize) -> Pillars
             }
         }
     }
-    Pillars {
+    ColumnsRead {
         answer: Answer::Good,
         columns: columns,
         next: next,

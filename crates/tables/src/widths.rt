@@ -6,9 +6,9 @@ ghost use lib.ListN.{take};
 ghost use Rattle.page_meaning.specs.Limits.{mostTables};
 ghost use Rattle.page_questions.specs.Layout as layout;
 ghost use Rattle.page_questions.specs.Reader.{widthAt, many};
-ghost use Rattle.tables.specs.Shapes.{WidthsRead, Counted};
+ghost use Rattle.tables.specs.Shapes.{MeansWidths, Counted};
 ghost use Rattle.question.specs.Held.{ShapeHeld, widthsOf};
-use fields::fields::Byte;
+use fields::fields::ByteRead;
 use fields::fields::byte_at;
 use limits::PAST_COLUMNS;
 use limits::TABLES;
@@ -16,16 +16,16 @@ use question::types::Answer;
 use question::types::Shape;
 
 // Widths, their sum and the next offset, or a refusal.
-pub struct Widths {
+pub struct WidthsRead {
     pub answer: Answer,
     pub widths: [usize; TABLES],
     pub total: usize,
     pub next: usize,
 }
 
-pub fn widths_at(s: &[u8], n: usize, p: usize) -> Widths
+pub fn widths_at(s: &[u8], n: usize, p: usize) -> WidthsRead
     requires { ⌜ n ≤ mostTables ⌝ }
-    ensures { λ r. ⌜ WidthsRead n r (many (widthAt (now (s .entry))) n [] p) ⌝ }
+    ensures { λ r. ⌜ MeansWidths n r (many (widthAt (now (s .entry))) n [] p) ⌝ }
 {
     let mut widths = [0usize; TABLES];
     let mut total = 0;
@@ -34,15 +34,15 @@ pub fn widths_at(s: &[u8], n: usize, p: usize) -> Widths
     while i < n {
         let b = byte_at(s, 4, 1, PAST_COLUMNS - total, next);
         match b {
-            Byte::Is(w, q) => {
+            ByteRead::Good(w, q) => {
                 let width = w as usize;
                 widths[i] = width;
                 total += width;
                 next = q;
                 i += 1;
             }
-            Byte::Not(m, at) => {
-                return Widths {
+            ByteRead::Refused(m, at) => {
+                return WidthsRead {
                     answer: Answer::Refused(m, at),
                     widths: widths,
                     total: total,
@@ -51,7 +51,7 @@ pub fn widths_at(s: &[u8], n: usize, p: usize) -> Widths
             }
         }
     }
-    Widths {
+    WidthsRead {
         answer: Answer::Good,
         widths: widths,
         total: total,

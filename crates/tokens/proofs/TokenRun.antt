@@ -2,15 +2,16 @@
 use mathlib.Core.Path.{_≡_, refl, sym, ap, _∙_}
 use mathlib.Core.Bool.{Bool, true, false, cond, _&&_}
 use mathlib.Core.List.{List, [], _∷_, map, foldl-append}
-use Prim.Native.Nat.{ℕ, _+_, _-_, _≤_, _<_}
+use Prim.Native.Nat.{ℕ, _+_, _≤_, _<_}
 use native.Mathlib.Omega.{arith}
 use lib.Dec.{ltb, leb}
 use lib.ListN.{length, take, set, getD}
+use Rattle.page_numbers.specs.Outcome.{Outcome, refused}
 use Rattle.page_meaning.specs.Condition as C
 use Rattle.page_meaning.specs.Limits.{mostTokens}
-use Rattle.page_questions.specs.Reader.{Outcome, bad, At, found, andThen, many, byte, tokenAt, comparisons, height, counted, after}
+use Rattle.page_questions.specs.Reader.{At, found, andThen, many, byte, tokenAt, comparisons, height, counted, after}
 use Rattle.question.specs.Held.{tokenOf}
-use Rattle.tokens.specs.Words.{tokenWith, wordWith}
+use Rattle.tokens.specs.Tokens.{tokenWith, tokenNumbered}
 use Rattle.question.specs.declared.types.Token.{Token}
 use Rattle.page_questions.proofs.Counts.{counted-le, after-le}
 use Rattle.page_questions.proofs.Loops.{Going, more, going-on}
@@ -21,7 +22,7 @@ unfolding byte
 next-byte {B} s n low high p f = go (ltb p (length s)) (leb low (getD s p 0) && ltb (getD s p 0) high)
   where
     given : Bool → Bool → Outcome (At ℕ)
-    given a b = cond a (cond b (found (getD s p 0) (p + 1)) (bad n p)) (bad 1 p)
+    given a b = cond a (cond b (found (getD s p 0) (p + 1)) (refused n p)) (refused 1 p)
 
     go : (a b : Bool) → andThen (given a b) f ≡ andThen (given a b) (λ x q. f x (p + 1))
     go true true = refl
@@ -30,8 +31,8 @@ next-byte {B} s n low high p f = go (ltb p (length s)) (leb low (getD s p 0) && 
 
 -- a token depends on the tokens before it by two numbers only
 pub with-counts : (s : List ℕ) (low high : ℕ) (ts : C.Condition) (p : ℕ) → tokenWith s low high (comparisons ts) (height ts) p ≡ tokenAt s low high ts p
-unfolding tokenWith tokenAt wordWith
-with-counts s low high ts p = next-byte s 6 1 5 p (λ t q. wordWith s low high (comparisons ts) (height ts) t p q)
+unfolding tokenWith tokenAt tokenNumbered
+with-counts s low high ts p = next-byte s 6 1 5 p (λ t q. tokenNumbered s low high (comparisons ts) (height ts) t p q)
 
 -- i tokens were read, of n
 pub record TokenRun (s : List ℕ) (low high n p : ℕ) (tokens : List Token) (compared tall next i : ℕ) : Type 0 where

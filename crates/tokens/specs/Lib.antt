@@ -1,1 +1,1 @@
-pub mod Words
+pub mod Tokens

@@ -4,9 +4,9 @@ ghost use Prim.Native.Nat.{_-_, _<_};
 ghost use Rattle.page_questions.specs.Reader.{opOf, sideOf, rightAt, comparisonAt, counted, after};
 ghost use Rattle.question.specs.Held as held;
 ghost use Rattle.fields.specs.Bytes.{byteOf};
-ghost use Rattle.tokens.specs.Words.{wordOf, sidesAt, needsAt, wordWith, tokenWith};
-use fields::fields::Byte;
-use fields::fields::Number;
+ghost use Rattle.tokens.specs.Tokens.{tokenMeant, sidesAt, needsAt, tokenNumbered, tokenWith};
+use fields::fields::ByteRead;
+use fields::fields::NumberRead;
 use fields::fields::byte_at;
 use fields::fields::number_at;
 use limits::COMPARISONS;
@@ -15,9 +15,9 @@ use question::types::Op;
 use question::types::Side;
 
 // A token and the offset after it, or a refusal.
-pub enum Word {
-    Is(Kind, usize),
-    Not(u8, usize),
+pub enum TokenRead {
+    Good(Kind, usize),
+    Refused(u8, usize),
 }
 
 fn op_of(o: u8) -> Op
@@ -45,65 +45,68 @@ fn side_of(right: u8, k: i32) -> Side
 }
 
 // The right column's byte.
-fn right_at(s: &[u8], low: usize, high: usize, p: usize) -> Byte
+fn right_at(s: &[u8], low: usize, high: usize, p: usize) -> ByteRead
     ensures { λ r. ⌜ byteOf r ≡ rightAt (now (s .entry)) low high p ⌝ }
 {
     if s.len() <= p {
-        return Byte::Not(1, p);
+        return ByteRead::Refused(1, p);
     }
     if s[p] == 255 {
-        return Byte::Is(255, p + 1);
+        return ByteRead::Good(255, p + 1);
     }
     byte_at(s, 7, low, high, p)
 }
 
 // A comparison's right column and constant, after its operator and left column.
-fn sides_at(s: &[u8], low: usize, high: usize, op: Op, left: u8, p: usize) -> Word
-    ensures { λ r. ⌜ wordOf r ≡ sidesAt (now (s .entry)) low high (held.opOf op) left p ⌝ }
+fn sides_at(s: &[u8], low: usize, high: usize, op: Op, left: u8, p: usize) -> TokenRead
+    ensures { λ r. ⌜ tokenMeant r ≡ sidesAt (now (s .entry)) low high (held.opOf op) left p ⌝ }
 {
     let b = right_at(s, low, high, p);
     match b {
-        Byte::Is(right, q) => {
+        ByteRead::Good(right, q) => {
             let v = number_at(s, 5, -2000000000, 2000000000, q);
             match v {
-                Number::Is(k, next) => Word::Is(Kind::Compare(op, left, side_of(right, k)), next),
-                Number::Not(n, at) => Word::Not(n, at),
+                NumberRead::Good(k, next) => TokenRead::Good(
+                    Kind::Compare(op, left, side_of(right, k)),
+                    next,
+                ),
+                NumberRead::Refused(n, at) => TokenRead::Refused(n, at),
             }
         }
-        Byte::Not(n, at) => Word::Not(n, at),
+        ByteRead::Refused(n, at) => TokenRead::Refused(n, at),
     }
 }
 
 // A comparison after its token byte.
-fn comparison_at(s: &[u8], low: usize, high: usize, p: usize) -> Word
-    ensures { λ r. ⌜ wordOf r ≡ comparisonAt (now (s .entry)) low high p ⌝ }
+fn comparison_at(s: &[u8], low: usize, high: usize, p: usize) -> TokenRead
+    ensures { λ r. ⌜ tokenMeant r ≡ comparisonAt (now (s .entry)) low high p ⌝ }
 {
     let b = byte_at(s, 6, 1, 7, p);
     match b {
-        Byte::Is(o, q) => {
+        ByteRead::Good(o, q) => {
             let l = byte_at(s, 7, low, high, q);
             match l {
-                Byte::Is(left, next) => sides_at(s, low, high, op_of(o), left, next),
-                Byte::Not(n, at) => Word::Not(n, at),
+                ByteRead::Good(left, next) => sides_at(s, low, high, op_of(o), left, next),
+                ByteRead::Refused(n, at) => TokenRead::Refused(n, at),
             }
         }
-        Byte::Not(n, at) => Word::Not(n, at),
+        ByteRead::Refused(n, at) => TokenRead::Refused(n, at),
     }
 }
 
 // A token that stands for an operation on the last values, if there are so many.
-fn operation(kind: Kind, wants: usize, height: usize, p: usize, q: usize) -> Word
-    ensures { λ r. ⌜ wordOf r ≡ needsAt (held.kindOf kind) wants height p q ⌝ }
+fn operation(kind: Kind, wants: usize, height: usize, p: usize, q: usize) -> TokenRead
+    ensures { λ r. ⌜ tokenMeant r ≡ needsAt (held.kindOf kind) wants height p q ⌝ }
 {
     if wants <= height {
-        Word::Is(kind, q)
+        TokenRead::Good(kind, q)
     } else {
-        Word::Not(6, p)
+        TokenRead::Refused(6, p)
     }
 }
 
 // The token of number t at p, whose byte ends before q, after `compared` comparisons and with `height` values.
-fn word_at(
+fn numbered_at(
     s: &[u8],
     low: usize,
     high: usize,
@@ -112,15 +115,15 @@ fn word_at(
     t: u8,
     p: usize,
     q: usize,
-) -> Word
-    ensures { λ r. ⌜ wordOf r ≡ wordWith (now (s .entry)) low high compared height t p q ⌝ }
+) -> TokenRead
+    ensures { λ r. ⌜ tokenMeant r ≡ tokenNumbered (now (s .entry)) low high compared height t p q ⌝ }
 {
     match t {
         1 => {
             if compared < COMPARISONS {
                 comparison_at(s, low, high, q)
             } else {
-                Word::Not(4, p)
+                TokenRead::Refused(4, p)
             }
         }
         2 => operation(Kind::Both, 2, height, p, q),
@@ -129,13 +132,20 @@ fn word_at(
     }
 }
 
-pub fn token_at(s: &[u8], low: usize, high: usize, compared: usize, height: usize, p: usize) -> Word
-    ensures { λ r. ⌜ wordOf r ≡ tokenWith (now (s .entry)) low high compared height p ⌝ }
+pub fn token_at(
+    s: &[u8],
+    low: usize,
+    high: usize,
+    compared: usize,
+    height: usize,
+    p: usize,
+) -> TokenRead
+    ensures { λ r. ⌜ tokenMeant r ≡ tokenWith (now (s .entry)) low high compared height p ⌝ }
 {
     let b = byte_at(s, 6, 1, 5, p);
     match b {
-        Byte::Is(t, q) => word_at(s, low, high, compared, height, t, p, q),
-        Byte::Not(n, at) => Word::Not(n, at),
+        ByteRead::Good(t, q) => numbered_at(s, low, high, compared, height, t, p, q),
+        ByteRead::Refused(n, at) => TokenRead::Refused(n, at),
     }
 }
 

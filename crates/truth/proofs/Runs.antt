@@ -7,10 +7,10 @@ use native.Mathlib.Numerals.{add-one}
 use native.Mathlib.Omega.{arith}
 use lib.ListN.{length, getD, drop, set, drop-of-length-le}
 use lib.Seq.{drop-cons, getD-set-same, getD-set-other}
-use Rattle.truth.specs.declared.knowing.Truth.{Truth}
-use Rattle.truth.specs.declared.knowing.Truth.the-variants.{Fails}
+use Rattle.truth.specs.declared.truths.Truth.{Truth}
+use Rattle.truth.specs.declared.truths.Truth.the-variants.{Fails}
 use Rattle.page_formulas.specs.Program.{two}
-use Rattle.page_formulas.specs.Known.{Three, fails, passes, open?, and3, or3, not3, next, later, top3}
+use Rattle.page_formulas.specs.Knowledge.{Three, fails, passes, open?, and3, or3, not3, next, later, top3}
 use Rattle.page_formulas.specs.Kinds.{kindStep, runKinds, knownKinds}
 use Rattle.truth.specs.Cells.{threeOf, bit, stackOf, joinedBy, pushedBy}
 

@@ -3,9 +3,9 @@ use Prim.Native.Nat.{ℕ, zero, suc}
 use mathlib.Core.Bool.{Bool, true, false}
 use mathlib.Core.List.{List, [], _∷_, map}
 use lib.ListN.{getD, drop}
-use Rattle.truth.specs.declared.knowing.Truth.{Truth}
-use Rattle.truth.specs.declared.knowing.Truth.the-variants.{Fails, Passes, Open}
-use Rattle.page_formulas.specs.Known.{Three, fails, passes, open?, and3, or3, next}
+use Rattle.truth.specs.declared.truths.Truth.{Truth}
+use Rattle.truth.specs.declared.truths.Truth.the-variants.{Fails, Passes, Open}
+use Rattle.page_formulas.specs.Knowledge.{Three, fails, passes, open?, and3, or3, next}
 
 -- the value that each case of the enum stands for
 abbrev pub threeOf : Truth → Three

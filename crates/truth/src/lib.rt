@@ -1,1 +1,1 @@
-pub mod knowing;
+pub mod truths;

@@ -42,7 +42,7 @@ fn sheet_in(asked: u8, verdict: Verdict, room: &[u8], length: usize, columns: u8
 fn answer(asked: u8, question: &[u8], columns: u8, room: &mut [u8]) {
     let written = answers::write(asked, question, room);
     match written {
-        Written::Sheet(verdict, length) => sheet_in(asked, verdict, room, length, columns),
+        Written::Good(verdict, length) => sheet_in(asked, verdict, room, length, columns),
         Written::Refused(number, place) => words::refused(number, place),
     }
 }

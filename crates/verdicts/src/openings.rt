@@ -7,7 +7,7 @@ use limits::VERTICES;
 use question::types::Question;
 use tableau::openings::formula_opens;
 ghost use Rattle.question.specs.Held.{Held, questionOf};
-ghost use Rattle.page_questions.specs.Accepted.{Accepted};
+ghost use Rattle.page_questions.specs.Guarantees.{Accepted};
 ghost use Rattle.page_sheets.specs.Sheet.{findingOf};
 ghost use Rattle.verdicts.specs.Finding.{Finds, Shown};
 

@@ -4,8 +4,8 @@ use outcome::Verdict;
 use question::types::Question;
 ghost use mathlib.Core.Path.{_≡_};
 ghost use Rattle.question.specs.Held.{Held, questionOf};
-ghost use Rattle.page_questions.specs.Accepted.{Accepted};
-ghost use Rattle.outcome.specs.Told.{verdictOf};
+ghost use Rattle.page_questions.specs.Guarantees.{Accepted};
+ghost use Rattle.outcome.specs.Answers.{verdictOf};
 ghost use Rattle.page_sheets.specs.Sheet.{verdictFor, findingOf};
 
 // It is that of the sheet, whose trees or values are not looked for.

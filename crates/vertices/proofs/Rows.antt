@@ -16,7 +16,7 @@ use Rattle.page_meaning.specs.Contents.{Range}
 use Rattle.page_formulas.specs.Vertices.{Ranges, isSome, present}
 use Rattle.question.specs.Held.{columnOf}
 use Rattle.question.specs.declared.types.Column.{Column}
-use Rattle.sights.specs.Seen.{noColumn}
+use Rattle.sights.specs.Sights.{noColumn}
 use Rattle.vertices.specs.Rows.{rowRanges, Widen, Widens}
 use Rattle.program.specs.Compiled.{Spans, rangeIf}
 use Rattle.program.specs.declared.types.Vertices.{Vertices}

@@ -2,9 +2,9 @@
 use Prim.Native.Nat.{ℕ, zero, suc, _≤_, _<_}
 use mathlib.Core.Path.{_≡_, refl}
 use native.Mathlib.Omega.{arith}
-use Rattle.page_formulas.specs.Known.{Three, and3, or3, not3}
+use Rattle.page_formulas.specs.Knowledge.{Three, and3, or3, not3}
 use Rattle.truth.specs.Cells.{joinedBy}
-use Rattle.views.specs.Seen.{threeBy}
+use Rattle.views.specs.Views.{threeBy}
 
 pub not-code : (a : ℕ) → ¬ (a ≡ 0) → ¬ (a ≡ 1) → threeBy 0 ≡ not3 (threeBy a)
 not-code zero e f = absurd (e refl)

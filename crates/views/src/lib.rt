@@ -11,12 +11,12 @@ ghost use mathlib.Core.Path.{_≡_};
 ghost use lib.ListN.{length};
 ghost use Rattle.page_meaning.specs.Limits.{mostVertices};
 ghost use Rattle.page_walks.specs.Sizes.{Sized};
-ghost use Rattle.page_formulas.specs.Known.{not3};
+ghost use Rattle.page_formulas.specs.Knowledge.{not3};
 ghost use Rattle.truth.specs.Cells.{joinedBy};
 ghost use Rattle.page_formulas.specs.Costs.{mostInstructions};
-ghost use Rattle.program_tree.specs.Nodes.{Placed, placeOf, treeOf, Laid};
-ghost use Rattle.goals.specs.Closed.{Tight};
-ghost use Rattle.views.specs.Seen.{threeBy, wantedBy, seenPlace, seenConstant, Shows, Sees};
+ghost use Rattle.program_tree.specs.Nodes.{Placed, placeOf, treeOf, LaidRows};
+ghost use Rattle.goals.specs.Closures.{Tight};
+ghost use Rattle.views.specs.Views.{threeBy, wantedBy, seenPlace, seenConstant, Tells, Sees};
 
 // Not.
 fn opposite(a: u8) -> u8
@@ -98,9 +98,9 @@ fn view(
     seen: &[u8; INSTRUCTIONS],
     i: usize,
 ) -> u8
-    requires { ⌜ Laid (treeOf (now nodes) (now most) ext) × Sized mostVertices (now near) × Tight (suc (ext .last)) (now near) ⌝ }
+    requires { ⌜ LaidRows (treeOf (now nodes) (now most) ext) × Sized mostVertices (now near) × Tight (suc (ext .last)) (now near) ⌝ }
     requires { ⌜ (i < ext .count) × Sees (treeOf (now nodes) (now most) ext) (now near) i (now seen) ⌝ }
-    ensures { λ r. ⌜ Shows (treeOf (now (nodes .entry)) (now (most .entry)) ext) (now (near .entry)) i r ⌝ }
+    ensures { λ r. ⌜ Tells (treeOf (now (nodes .entry)) (now (most .entry)) ext) (now (near .entry)) i r ⌝ }
 {
     let kind = kind_of(nodes, i);
     if kind == 0 {
@@ -125,7 +125,7 @@ pub fn look(
     near: &[[i64; VERTICES]; VERTICES],
     seen: &mut [u8; INSTRUCTIONS],
 )
-    requires { ⌜ Laid (treeOf (now nodes) (now most) ext) × Sized mostVertices (now near) × Tight (suc (ext .last)) (now near) × (length (now seen) ≡ mostInstructions) ⌝ }
+    requires { ⌜ LaidRows (treeOf (now nodes) (now most) ext) × Sized mostVertices (now near) × Tight (suc (ext .last)) (now near) × (length (now seen) ≡ mostInstructions) ⌝ }
     ensures { λ r. ⌜ Sees (treeOf (now (nodes .entry)) (now (most .entry)) ext) (now (near .entry)) (ext .count) (now (seen .exit)) × (length (now (seen .exit)) ≡ mostInstructions) ⌝ }
 {
     let n = ext.count;

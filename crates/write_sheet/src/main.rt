@@ -20,7 +20,7 @@ fn put(asked: u8, verdict: Verdict, room: &[u8], length: usize) {
 fn work(asked: u8, question: &[u8], room: &mut [u8]) {
     let written = answers::write(asked, question, room);
     match written {
-        Written::Sheet(verdict, length) => put(asked, verdict, room, length),
+        Written::Good(verdict, length) => put(asked, verdict, room, length),
         Written::Refused(number, place) => words::explained(number, place),
     }
 }

@@ -1,2 +1,2 @@
-pub mod Lays
+pub mod Layouts
 pub mod Places

@@ -6,15 +6,16 @@ use mathlib.Core.List.{List, _++_}
 use native.Mathlib.Omega.{arith}
 use lib.Dec.{leb, le→leb, leb→le}
 use lib.ListN.{length, take, replicate}
+use Rattle.page_numbers.specs.Outcome.{good, refused}
 use Rattle.page_meaning.specs.Contents.{Question}
-use Rattle.outcome.specs.Told.{verdictOf}
-use Rattle.page_sheets.specs.Answers.{wrote, unwritten, placed}
+use Rattle.outcome.specs.Answers.{verdictOf}
+use Rattle.page_sheets.specs.Answers.{placed}
 use Rattle.page_sheets.specs.Sheet.{verdictFor, findingOf, sheetOf}
 use Rattle.page_sheets.proofs.Fit.{to-true, to-false}
-use Rattle.writer.specs.Laying.{StandsIf, Lays}
-use Rattle.writer.specs.declared.Laid.{Laid}
+use Rattle.writer.specs.Layouts.{StandsIf, Lays}
+use Rattle.writer.specs.declared.SheetEnd.{SheetEnd}
 
-module _ (q : Question) (a : ℕ) (old new : List ℕ) (r : Laid) (h : Lays old q a (findingOf q a) new r) where
+module _ (q : Question) (a : ℕ) (old new : List ℕ) (r : SheetEnd) (h : Lays old q a (findingOf q a) new r) where
   stands : (b : Bool) → r .spot .over ≡ b → StandsIf b (sheetOf q a) new (r .spot .at)
   unfolding sheetOf
   stands b e = subst (λ o. StandsIf o (sheetOf q a) new (r .spot .at)) e (h .stands)
@@ -24,7 +25,7 @@ module _ (q : Question) (a : ℕ) (old new : List ℕ) (r : Laid) (h : Lays old 
 
   module _ (room : List ℕ) where
     -- the sheet and zeros
-    pub placed-whole : r .spot .over ≡ false → room ≡ take (r .spot .at) new ++ replicate (length new - r .spot .at) 0 → record { answer = wrote (verdictOf (r .verdict)) (r .spot .at); room = room } ≡ placed (verdictFor (findingOf q a)) (sheetOf q a) old
+    pub placed-whole : r .spot .over ≡ false → room ≡ take (r .spot .at) new ++ replicate (length new - r .spot .at) 0 → record { answer = good (verdictOf (r .verdict), r .spot .at); room = room } ≡ placed (verdictFor (findingOf q a)) (sheetOf q a) old
     placed-whole e c =
         let s = stands false e in
         let t = to-true (leb (length (sheetOf q a)) (length old)) (le→leb (length (sheetOf q a)) (length old) (omega (arith, s .0, s .1, h .long))) in
@@ -32,7 +33,7 @@ module _ (q : Question) (a : ℕ) (old new : List ℕ) (r : Laid) (h : Lays old 
         rw (t, h .says, s .0, rest)
 
     -- zeros
-    pub placed-none : r .spot .over ≡ true → room ≡ take 0 new ++ replicate (length new - 0) 0 → record { answer = unwritten 21 0; room = room } ≡ placed (verdictFor (findingOf q a)) (sheetOf q a) old
+    pub placed-none : r .spot .over ≡ true → room ≡ take 0 new ++ replicate (length new - 0) 0 → record { answer = refused 21 0; room = room } ≡ placed (verdictFor (findingOf q a)) (sheetOf q a) old
     placed-none e c =
         let t = to-false (leb (length (sheetOf q a)) (length old)) (λ b. omega (arith, leb→le (length (sheetOf q a)) (length old) b, stands true e, h .long)) in
         let all : length new - 0 ≡ length old = omega (arith, h .long) in

@@ -9,20 +9,20 @@ use writer_sheets::put_no;
 use writer_sheets::put_yes;
 ghost use mathlib.Core.Path.{_≡_};
 ghost use Rattle.question.specs.Held.{Held, questionOf};
-ghost use Rattle.page_questions.specs.Accepted.{Accepted};
+ghost use Rattle.page_questions.specs.Guarantees.{Accepted};
 ghost use Rattle.page_sheets.specs.Answers.{placed};
 ghost use Rattle.page_sheets.specs.Sheet.{verdictFor, findingOf, sheetOf};
-ghost use Rattle.outcome.specs.Told.{doneOf};
-ghost use Rattle.writer.specs.Laying.{Lays};
+ghost use Rattle.outcome.specs.Answers.{doneOf};
+ghost use Rattle.writer.specs.Layouts.{Lays};
 
 // What was laid, and where it ends.
-pub struct Laid {
+pub struct SheetEnd {
     pub verdict: Verdict,
     pub spot: Spot,
 }
 
 // A sheet from the start of the room on, as far as it fits. The verdict comes first, so that only that sheet's bytes are worked out.
-fn lay(room: &mut [u8], q: Question, asked: u8) -> Laid
+fn lay(room: &mut [u8], q: Question, asked: u8) -> SheetEnd
     requires { ⌜ Held q × Accepted (questionOf q) ⌝ }
     ensures { λ r. ⌜ Lays (now (room .entry)) (questionOf q) asked (findingOf (questionOf q) asked) (now (room .exit)) r ⌝ }
 {
@@ -30,13 +30,13 @@ fn lay(room: &mut [u8], q: Question, asked: u8) -> Laid
     let open = found.open;
     if open {
         let end = put_no(room, q, asked, found.number);
-        return Laid {
+        return SheetEnd {
             verdict: Verdict::No,
             spot: end,
         };
     }
     let end = put_yes(room, q, asked);
-    Laid {
+    SheetEnd {
         verdict: Verdict::Yes,
         spot: end,
     }
@@ -56,5 +56,5 @@ pub fn finish(room: &mut [u8], q: Question, asked: u8) -> Written
     }
     let at = laid.spot.at;
     clear(room, at);
-    Written::Sheet(verdict, at)
+    Written::Good(verdict, at)
 }

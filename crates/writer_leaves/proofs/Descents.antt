@@ -12,26 +12,26 @@ use lib.Signed.{_≤ℤ_, _<ℤ_}
 use Rattle.page_meaning.specs.Limits.{mostVertices}
 use Rattle.page_walks.specs.Grid.{Grid, row, weight}
 use Rattle.page_walks.specs.Sizes.{tabled, Sized}
-use Rattle.page_walks.specs.Near.{relax, Least}
+use Rattle.page_walks.specs.Nearness.{relax, Least}
 use Rattle.page_walks.proofs.Rows.{read}
 use Rattle.page_formulas.specs.Formulas.{Formula}
-use Rattle.page_formulas.specs.Known.{Three, fails, passes, open?, known}
+use Rattle.page_formulas.specs.Knowledge.{Three, fails, passes, open?, known}
 use Rattle.page_formulas.specs.Kinds.{knownKinds, nowhere}
 use Rattle.page_formulas.specs.Program.{Values, Place, places}
-use Rattle.page_formulas.specs.Said.{Agrees}
+use Rattle.page_formulas.specs.Truths.{Agrees}
 use Rattle.truth.specs.Cells.{bit}
 use Rattle.truth.proofs.Cells.{decided-more}
 use Rattle.program.specs.Lent.{Lent, placeAt}
-use Rattle.program.proofs.Lends.{lent-most, lent-place}
+use Rattle.program.proofs.Loans.{lent-most, lent-place}
 use Rattle.page_sheets.specs.Facts.{taken, decide}
-use Rattle.page_sheets.specs.Fast.{calmNode, fast, after}
-use Rattle.page_sheets.specs.Grow.{Growth, openAt}
-use Rattle.page_sheets.proofs.Fasts.{UpTo, Same, same-trans, same-open}
-use Rattle.page_sheets.proofs.FastAmong.{SameBelow, fast-table}
+use Rattle.page_sheets.specs.FastRule.{calmNode, fast, after}
+use Rattle.page_sheets.specs.Growth.{Growth, openAt}
+use Rattle.page_sheets.proofs.FastRule.{UpTo, Same, same-trans, same-open}
+use Rattle.page_sheets.proofs.OwnVertices.{SameBelow, fast-table}
 use Rattle.page_sheets.proofs.Steps.{fast-end}
-use Rattle.page_sheets.proofs.Descends.{Down, TrueIn, down-next, down-table, true-table, table-true, leaf-known, leaf-false, TrueShut, down-true, down-false}
+use Rattle.page_sheets.proofs.Descent.{Down, TrueIn, down-next, down-table, true-table, table-true, leaf-known, leaf-false, TrueShut, down-true, down-false}
 use Rattle.writer_trees.specs.Trees.{decisions, Placing, fastAt}
-use Rattle.writer_trees.proofs.Halves.{known-lent, all-ends, closer-same}
+use Rattle.writer_trees.proofs.NodeHalves.{known-lent, all-ends, closer-same}
 
 module _ (last : ℕ) (F : Formula) where
   -- on the way to the leaf of values x: the first places are decided, and the fast rule leads there from here

@@ -1,3 +1,3 @@
 pub mod Descents
-pub mod Tries
+pub mod Attempts
 pub mod Roots

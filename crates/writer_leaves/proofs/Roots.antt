@@ -9,19 +9,19 @@ use Rattle.page_meaning.specs.Limits.{mostVertices}
 use Rattle.page_walks.specs.Grid.{Grid}
 use Rattle.page_formulas.specs.Formulas.{Formula}
 use Rattle.page_formulas.specs.Program.{Values}
-use Rattle.page_formulas.specs.Proper.{Proper}
+use Rattle.page_formulas.specs.ProperFormulas.{Proper}
 use Rattle.program.specs.Lent.{Coded}
-use Rattle.program.proofs.Lends.{kinds-long}
+use Rattle.program.proofs.Loans.{kinds-long}
 use Rattle.page_sheets.specs.Facts.{start}
-use Rattle.page_sheets.specs.Grow.{openAt, growTree}
+use Rattle.page_sheets.specs.Growth.{openAt, growTree}
 use Rattle.page_sheets.specs.Sheet.{lastVertex}
-use Rattle.page_sheets.proofs.Fasts.{Here, UpTo, Same, same-open}
+use Rattle.page_sheets.proofs.FastRule.{Here, UpTo, Same, same-open}
 use Rattle.page_sheets.proofs.Fit.{present-below}
-use Rattle.goals.specs.Closed.{Tight}
+use Rattle.goals.specs.Closures.{Tight}
 use Rattle.program_tree.specs.Nodes.{Tells, Tree}
 use Rattle.writer_trees.specs.Trees.{Placing, fastAt}
 use Rattle.writer_leaves.specs.Leaves.{Opening, Descendable, Leaf}
-use Rattle.writer_trees.proofs.Plants.{Begun, placing, planted-same}
+use Rattle.writer_trees.proofs.RootTrees.{Begun, placing, planted-same}
 
 module _ (F : Formula) (kinds : List ℕ) (n : ℕ) (left right : List ℕ) (most : List ℤ) (few : ℕ) (c : Coded F kinds n left right most few) (p : Proper F) (t : Tree) (tells : Tells t (F .program)) (last-is : t .last ≡ length (F .ranges)) (near : Grid) (s : Begun F near) where
   abbrev facts : Grid

@@ -11,16 +11,16 @@ use Rattle.page_meaning.specs.Limits.{mostVertices}
 use Rattle.page_walks.specs.Grid.{Grid, weight}
 use Rattle.page_walks.specs.Sizes.{Sized}
 use Rattle.page_formulas.specs.Formulas.{Formula}
-use Rattle.page_formulas.specs.Known.{Three, fails, passes, open?}
+use Rattle.page_formulas.specs.Knowledge.{Three, fails, passes, open?}
 use Rattle.page_formulas.specs.Program.{Program, Values}
 use Rattle.page_formulas.specs.Costs.{mostInstructions}
-use Rattle.page_formulas.specs.Proper.{Proper}
+use Rattle.page_formulas.specs.ProperFormulas.{Proper}
 use Rattle.program.specs.Lent.{Lent}
 use Rattle.program.specs.Compiled.{Compiled}
-use Rattle.program.specs.Held as compiled
-use Rattle.page_sheets.specs.Grow.{openAt, growTree}
+use Rattle.program.specs.Formulas as compiled
+use Rattle.page_sheets.specs.Growth.{openAt, growTree}
 use Rattle.page_sheets.specs.Sheet.{lastVertex}
-use Rattle.goals.specs.Closed.{Tight}
+use Rattle.goals.specs.Closures.{Tight}
 use Rattle.program_tree.specs.Nodes.{Tells, Tree}
 use Rattle.goals.specs.Goals.{TrueUnder}
 use Rattle.grid.specs.Edges.{Fact}

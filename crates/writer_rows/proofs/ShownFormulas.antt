@@ -10,11 +10,11 @@ use lib.ListN.{length, getD, length-map}
 use Rattle.page_meaning.specs.Contents.{Values, _∈_, Table, Change, insert, delete, modify, Question}
 use Rattle.page_meaning.specs.Claims.{unlessAlone}
 use Rattle.page_meaning.specs.WellFormed.{WellFormed, ChangeOk}
-use Rattle.page_meaning.proofs.Moving.{fits-length}
+use Rattle.page_meaning.proofs.MovedRows.{fits-length}
 use Rattle.question.specs.Held.{questionOf}
 use Rattle.question.specs.declared.types.Question as D
 use Rattle.page_formulas.specs.Formulas.{Formula, irrelevance, computability, formulas}
-use Rattle.sights.specs.Seen.{Whole}
+use Rattle.sights.specs.Sights.{Whole}
 use Rattle.page_sheets.specs.Rows.{Wide}
 use Rattle.writer_rows.specs.Rows.{Showable}
 

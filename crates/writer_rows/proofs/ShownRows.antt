@@ -17,15 +17,15 @@ use Rattle.question.specs.Held.{questionOf}
 use Rattle.question.specs.declared.types.Question as D
 use Rattle.page_formulas.specs.Formulas.{Formula, among, secondSight, rowOf1, rowOf2}
 use Rattle.page_formulas.specs.Program as P
-use Rattle.sights.specs.Seen.{rowSight}
+use Rattle.sights.specs.Sights.{rowSight}
 use Rattle.sights.proofs.Shapes.{columns-length}
 use Rattle.page_sheets.specs.Rows.{width, putRow, firstRow, secondRow, bytesOfRow, fixed, Rowed, Wide, orElse}
-use Rattle.page_sheets.proofs.Alike.{rows-alike}
+use Rattle.page_sheets.proofs.AlikeRows.{rows-alike}
 use Rattle.page_sheets.proofs.Columns.{first-value, second-value}
 use Rattle.page_sheets.proofs.Values.{tabulate-length}
 use Rattle.room.specs.Room.{Filling, puts}
-use Rattle.writer_rows.specs.Rows.{rowFor, rowsFor, Showable, Alike}
-use Rattle.room.proofs.Puts.{puts-append}
+use Rattle.writer_rows.specs.Rows.{rowFor, rowsFor, Showable, Carries}
+use Rattle.room.proofs.PutBytes.{puts-append}
 
 -- ---- a row's columns
 
@@ -100,5 +100,5 @@ module _ (f : Filling) (q : Question) (i : ℕ) (x : P.Values) (pairs : Bool) wh
 
 -- ---- rows of values that agree
 
-pub rows-shown : (q : Question) (i : ℕ) (F : Formula) (values : Values) (x : P.Values) (pairs : Bool) → F .pairs ≡ pairs → Rowed q F → Alike (F .ranges) values x → rowsFor q i pairs (look values) ≡ firstRow q i x ++ secondRow q F x
+pub rows-shown : (q : Question) (i : ℕ) (F : Formula) (values : Values) (x : P.Values) (pairs : Bool) → F .pairs ≡ pairs → Rowed q F → Carries (F .ranges) values x → rowsFor q i pairs (look values) ≡ firstRow q i x ++ secondRow q F x
 rows-shown q i F values x pairs e w a = let s = rows-alike q F w (look values) x a in rw (← e) (ap₂ (λ u v. putRow q (q .change) i u ++ v) (s .0) (s .1))

@@ -11,7 +11,7 @@ use Rattle.question.specs.declared.types.Question.{Question}
 use Rattle.page_formulas.specs.Program as P
 use Rattle.page_formulas.specs.Formulas.{rowOf2}
 use Rattle.page_formulas.specs.Vertices.{Ranges, present}
-use Rattle.sights.specs.Seen.{Whole}
+use Rattle.sights.specs.Sights.{Whole}
 use Rattle.page_sheets.specs.Rows.{firstRow, Wide}
 
 -- the first or the second row
@@ -28,5 +28,5 @@ pub record Showable (q : Question) (i : ℕ) : Type 0 where
   pub wide : Wide (questionOf q) (questionOf q .change) i
 
 -- the code's values are those at the formula's vertices
-abbrev pub Alike : Ranges → Values → P.Values → Type 0
-Alike rs values x = (v : ℕ) → T (present rs v) → look values v ≡ x v
+abbrev pub Carries : Ranges → Values → P.Values → Type 0
+Carries rs values x = (v : ℕ) → T (present rs v) → look values v ≡ x v

@@ -16,10 +16,10 @@ ghost use Rattle.page_meaning.specs.Contents.{look};
 ghost use Rattle.question.specs.Held.{questionOf};
 ghost use Rattle.page_formulas.specs.Formulas.{Formula};
 ghost use Rattle.page_formulas.specs.Program.{Values};
-ghost use Rattle.sights.specs.Seen.{Whole};
+ghost use Rattle.sights.specs.Sights.{Whole};
 ghost use Rattle.page_sheets.specs.Rows.{fixed, orElse, bytesOfRow, noBytes, Rowed};
 ghost use Rattle.room.specs.Room.{filling, puts};
-ghost use Rattle.writer_rows.specs.Rows.{rowFor, rowsFor, Showable, Alike};
+ghost use Rattle.writer_rows.specs.Rows.{rowFor, rowsFor, Showable, Carries};
 
 // The 32 bits of a value.
 fn low_bits(z: i64) -> u64
@@ -122,7 +122,7 @@ pub fn put_refutation(
     values: [i64; VERTICES],
 ) -> Spot
     requires { ⌜ Showable q i ⌝ }
-    ensures { λ r. ⌜ ((F : Formula) (x : Values) → F .pairs ≡ pairs → Rowed (questionOf q) F → Alike (F .ranges) values x → filling (now (room .exit)) r ≡ puts (filling (now (room .entry)) spot) (noBytes (questionOf q) i F x)) ⌝ }
+    ensures { λ r. ⌜ ((F : Formula) (x : Values) → F .pairs ≡ pairs → Rowed (questionOf q) F → Carries (F .ranges) values x → filling (now (room .exit)) r ≡ puts (filling (now (room .entry)) spot) (noBytes (questionOf q) i F x)) ⌝ }
 {
     let next = put(room, spot, i);
     put_rows(room, next, q, i as usize, pairs, values)

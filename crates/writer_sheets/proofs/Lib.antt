@@ -1,2 +1,2 @@
 pub mod Sheets
-pub mod Sowings
+pub mod Trees

@@ -10,16 +10,16 @@ use Rattle.page_meaning.specs.Contents.{Table, Change, insert, delete, modify, 
 use Rattle.page_meaning.specs.Contents as M
 use Rattle.page_meaning.specs.Claims.{unlessAlone}
 use Rattle.page_meaning.specs.Limits.{mostRows}
-use Rattle.page_questions.specs.Accepted.{Accepted, ChangeAccepted}
+use Rattle.page_questions.specs.Guarantees.{Accepted, ChangeAccepted}
 use Rattle.page_formulas.specs.Formulas.{Formula, irrelevance, computability, formulas, noFormula}
 use Rattle.page_formulas.specs.Program.{Values}
-use Rattle.page_formulas.specs.Proper.{Proper}
+use Rattle.page_formulas.specs.ProperFormulas.{Proper}
 use Rattle.page_formulas.specs.Vertices.{present}
 use Rattle.program.specs.Compiled.{Compiled}
-use Rattle.program.specs.Held as compiled
+use Rattle.program.specs.Formulas as compiled
 use Rattle.formula.specs.Formulas.{formulaAt}
-use Rattle.formula.proofs.Fines.{proper-at}
-use Rattle.page_sheets.specs.Grow.{openAt, growTree}
+use Rattle.formula.proofs.ProperFormulas.{proper-at}
+use Rattle.page_sheets.specs.Growth.{openAt, growTree}
 use Rattle.page_sheets.specs.Rows.{noBytes, Rowed}
 use Rattle.page_sheets.specs.Sheet.{lastVertex, header, sayYes, sayNo, sheetFor, findingOf, sheetOf}
 use Rattle.page_sheets.specs.Tree.{Tree}
@@ -27,9 +27,9 @@ use Rattle.page_sheets.specs.Trees.{allShut, bytesAll}
 use Rattle.page_sheets.proofs.Positions.{open-there}
 use Rattle.room.specs.Room.{filling, puts}
 use Rattle.room.specs.declared.Spot.{Spot}
-use Rattle.room.proofs.Puts.{puts-append}
-use Rattle.writer_rows.specs.Rows.{Alike}
-use Rattle.page_sheets.proofs.Alike.{rows-there}
+use Rattle.room.proofs.PutBytes.{puts-append}
+use Rattle.writer_rows.specs.Rows.{Carries}
+use Rattle.page_sheets.proofs.AlikeRows.{rows-there}
 use Rattle.writer_leaves.specs.Leaves.{FineOpen, Leaf}
 use Rattle.writer_sheets.specs.Starts.{atStart, AllShut, OpenFirst}
 
@@ -69,7 +69,7 @@ module _ (q : Question) (ok : Accepted q) (a : ℕ) where
     pub sheet-no : (f : compiled.Formula) → Compiled f (formulaAt (formulas q a) i) → (values : M.Values)
         → ((F : Formula) (x : Values) → Compiled f F → Proper F → growTree lastVertex F ≡ openAt x → Leaf (λ v. T (present (F .ranges) v)) x values)
         → (old mid new : List ℕ) (s₁ s : Spot) → filling mid s₁ ≡ puts (filling old atStart) (header a sayNo)
-        → ((F : Formula) (x : Values) → F .pairs ≡ f .pairs → Rowed q F → Alike (F .ranges) values x → filling new s ≡ puts (filling mid s₁) (noBytes q i F x))
+        → ((F : Formula) (x : Values) → F .pairs ≡ f .pairs → Rowed q F → Carries (F .ranges) values x → filling new s ≡ puts (filling mid s₁) (noBytes q i F x))
         → filling new s ≡ puts (filling old atStart) (sheetOf q a)
     unfolding sheetOf fine-open
     sheet-no f is values leaf old mid new s₁ s h w =

@@ -20,18 +20,18 @@ use Rattle.page_walks.specs.Sizes.{least-weight, Bounded, Sized, AllWithin}
 use Rattle.cycles.specs.Found as Found
 use Rattle.cycles.specs.declared.Cycle.{Cycle}
 use Rattle.page_walks.proofs.Grids.{tighten-keeps, tighten-le, tighten-sized}
-use Rattle.page_formulas.specs.Known.{Three, fails, passes, open?}
-use Rattle.page_sheets.specs.Fast.{strainedNode, cycleOf}
+use Rattle.page_formulas.specs.Knowledge.{Three, fails, passes, open?}
+use Rattle.page_sheets.specs.FastRule.{strainedNode, cycleOf}
 use Rattle.page_sheets.specs.Tree.{bytesOf, cycle}
-use Rattle.page_sheets.specs.Grow.{Growth, shut, openAt, join}
+use Rattle.page_sheets.specs.Growth.{Growth, shut, openAt, join}
 use Rattle.room.specs.Room.{Filling, filling, putOne, puts}
-use Rattle.goals.specs.Closed.{Tight, Closer}
-use Rattle.goals.proofs.Tightens.{closer-tabled}
-use Rattle.writer_trees.specs.Trees.{Grows, Ready, cutBytes, with}
+use Rattle.goals.specs.Closures.{Tight, Closer}
+use Rattle.goals.proofs.Tightening.{closer-tabled}
+use Rattle.writer_trees.specs.Trees.{Grows, Growable, cutBytes, with}
 use Rattle.grid.specs.Edges.{Fact, Kept}
 use Rattle.room.specs.declared.Spot.{Spot}
-use Rattle.page_sheets.proofs.Fasts.{Same}
-use Rattle.room.proofs.Puts.{puts-append, puts-over}
+use Rattle.page_sheets.proofs.FastRule.{Same}
+use Rattle.room.proofs.PutBytes.{puts-append, puts-over}
 
 -- ---- what is left by growths
 
@@ -81,14 +81,14 @@ module _ (last from to : ℕ) (k : ℤ) (fact : Fact last from to k) where
 pub with-closer : (last : ℕ) → last < mostVertices → (near : Grid) → Sized mostVertices near → Tight (suc last) near → (from to : ℕ) (k : ℤ) → Fact last from to k → pos 0 ≤ℤ (weight near to from +ℤ k) → Closer (suc last) near from to k (with last near from to k)
 with-closer last few near table tight from to k fact h = closer-tabled (suc last) near tight (omega arith) table from to k (fact .from-is) (fact .to-is) (with last near from to k) refl h
 
-module _ (last : ℕ) (left right : List ℕ) (most : List ℤ) (g near : Grid) (ready : Ready last left right most g near) where
+module _ (last : ℕ) (left right : List ℕ) (most : List ℤ) (g near : Grid) (ready : Growable last left right most g near) where
   module _ (from to : ℕ) (k : ℤ) (fact : Fact last from to k) where
     -- where it closes no negative cycle, the grid and the table with it are ready
-    pub ready-next : pos 0 ≤ℤ (weight near to from +ℤ k) → Ready last left right most (tighten g from to k) (with last near from to k)
+    pub ready-next : pos 0 ≤ℤ (weight near to from +ℤ k) → Growable last left right most (tighten g from to k) (with last near from to k)
     ready-next h = let c = with-closer last (ready .places .few) near (ready .table) (ready .tight) from to k fact h in record { places = ready .places; kept = kept-next last from to k fact g (ready .kept); table = c .sized; tight = c .tight }
 
     -- the same, as the code hands it on
-    pub ready-handed : (x : ℤ) (facts closer : Grid) → x ≡ weight near to from +ℤ k → facts ≡ tighten g from to k → closer ≡ with last near from to k → ltZ x (pos 0) ≡ false → Ready last left right most facts closer
+    pub ready-handed : (x : ℤ) (facts closer : Grid) → x ≡ weight near to from +ℤ k → facts ≡ tighten g from to k → closer ≡ with last near from to k → ltZ x (pos 0) ≡ false → Growable last left right most facts closer
     ready-handed x facts closer e i j t = rw (i, j) (ready-next (omega (ints, lt-false x (pos 0) t, eq-out e)))
 
 -- ---- a node whose facts close a negative cycle
@@ -104,8 +104,8 @@ pub cut-open : (k : Three) (o : Option (List ℕ)) (f x : Filling) → k ≡ ope
 cut-open k o f x e h = rw e h
 
 -- the vertices that the search hands back are its cycle's
-pub found-list : (c : Cycle) (o : Option (List ℕ)) → Found.cycleOf c ≡ o → take (c .count) (c .vertices) ≡ cycleOf o
-unfolding Found.cycleOf
+pub found-list : (c : Cycle) (o : Option (List ℕ)) → Found.walkOf c ≡ o → take (c .count) (c .vertices) ≡ cycleOf o
+unfolding Found.walkOf
 found-list c o e = go (c .count) (c .vertices) (eqb (c .count) 0) (λ t. eqb→eq (c .count) 0 t) ∙ ap cycleOf e
   where
     go : (n : ℕ) (l : List ℕ) (b : Bool) → (T b → n ≡ 0) → take n l ≡ cycleOf (cond b none (some (take n l)))

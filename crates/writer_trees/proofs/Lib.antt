@@ -1,3 +1,3 @@
 pub mod Growths
-pub mod Halves
-pub mod Plants
+pub mod NodeHalves
+pub mod RootTrees

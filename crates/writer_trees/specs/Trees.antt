@@ -8,22 +8,22 @@ use lib.IntN.{ℤ}
 use Rattle.page_meaning.specs.Limits.{mostVertices, mostDecisions}
 use Rattle.page_walks.specs.Grid.{Grid, weight, tighten}
 use Rattle.page_walks.specs.Sizes.{Sized, tabled}
-use Rattle.page_walks.specs.Near.{relax}
+use Rattle.page_walks.specs.Nearness.{relax}
 use Rattle.page_formulas.specs.Program.{Place, places}
 use Rattle.truth.specs.Cells.{bit}
 use Rattle.page_formulas.specs.Formulas.{Formula}
 use Rattle.program.specs.Lent.{placeAt}
 use Rattle.page_sheets.specs.Facts.{taken}
-use Rattle.page_sheets.specs.Fast.{after, half, fast}
+use Rattle.page_sheets.specs.FastRule.{after, half, fast}
 use Rattle.page_sheets.specs.Tree.{bytesOf}
-use Rattle.page_sheets.specs.Grow.{Growth, shut, openAt}
+use Rattle.page_sheets.specs.Growth.{Growth, shut, openAt}
 use Rattle.room.specs.Room.{filling, puts}
 use Rattle.room.specs.declared.Spot.{Spot}
 use Rattle.grid.specs.Edges.{Fact, Kept}
 use Rattle.writer_trees.specs.declared.trees.Edge.{Edge}
 use Rattle.writer_trees.specs.declared.trees.Half.{Half}
 use Rattle.writer_trees.specs.declared.trees.Node.{Node}
-use Rattle.goals.specs.Closed.{Tight}
+use Rattle.goals.specs.Closures.{Tight}
 
 -- the decisions made so far, from their bytes
 abbrev pub decisions : List ℕ → ℕ → List Bool
@@ -70,7 +70,7 @@ pub record Placing (last : ℕ) (left right : List ℕ) (most : List ℤ) : Type
   pub facts : (i : ℕ) → i < length most → (d : Bool) → Fact last (taken (placeAt left right most i) d .right) (taken (placeAt left right most i) d .left) (taken (placeAt left right most i) d .most)
 
 -- and a grid of such facts, with a table of least sums
-pub record Ready (last : ℕ) (left right : List ℕ) (most : List ℤ) (g near : Grid) : Type 0 where
+pub record Growable (last : ℕ) (left right : List ℕ) (most : List ℤ) (g near : Grid) : Type 0 where
   pub places : Placing last left right most
   pub kept : Kept g
   pub table : Sized mostVertices near

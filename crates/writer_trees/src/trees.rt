@@ -14,28 +14,28 @@ use room::Spot;
 use room::put;
 use room::put_all;
 use spreads::begin;
-use truth::knowing::Truth;
-use truth::knowing::known;
+use truth::truths::Truth;
+use truth::truths::known;
 ghost use Prim.Native.Nat.{_-_, _≤_, _<_};
 ghost use mathlib.Core.Path.{_≡_};
 ghost use lib.ListN.{length, take};
 ghost use Rattle.page_meaning.specs.Limits.{mostVertices, mostDecisions};
 ghost use Rattle.page_formulas.specs.Formulas as written;
-ghost use Rattle.page_formulas.specs.Proper.{Proper};
+ghost use Rattle.page_formulas.specs.ProperFormulas.{Proper};
 ghost use Rattle.page_formulas.specs.Costs.{mostInstructions};
 ghost use Rattle.page_formulas.specs.Kinds.{knownKinds};
-ghost use Rattle.page_formulas.specs.Known.{open?};
+ghost use Rattle.page_formulas.specs.Knowledge.{open?};
 ghost use Rattle.truth.specs.Cells.{threeOf};
 ghost use Rattle.page_sheets.specs.Tree.{bytesOf, cycle};
 ghost use Rattle.page_walks.specs.Grid.{weight, tighten};
 ghost use Rattle.page_walks.specs.Search.{search};
 ghost use Rattle.program.specs.Lent.{Lent};
 ghost use Rattle.program.specs.Compiled.{Compiled, Fine, formulaOf};
-ghost use Rattle.page_sheets.specs.Fast.{strainedNode, cycleOf};
-ghost use Rattle.page_sheets.specs.Grow.{growTree};
+ghost use Rattle.page_sheets.specs.FastRule.{strainedNode, cycleOf};
+ghost use Rattle.page_sheets.specs.Growth.{growTree};
 ghost use Rattle.page_sheets.specs.Sheet.{lastVertex};
 ghost use Rattle.room.specs.Room.{filling, puts};
-ghost use Rattle.writer_trees.specs.Trees.{Grows, decisions, halfOf, Ready, cutBytes, fastAt, sideBy};
+ghost use Rattle.writer_trees.specs.Trees.{Grows, decisions, halfOf, Growable, cutBytes, fastAt, sideBy};
 ghost use Rattle.grid.specs.Edges.{Fact, Kept};
 
 // A fact as an edge.
@@ -152,7 +152,7 @@ fn side(
     g: &[[i64; VERTICES]; VERTICES],
     near: &[[i64; VERTICES]; VERTICES],
 ) -> Spot
-    requires { ⌜ (length (now kinds) ≤ mostInstructions) × (h .node .undecided ≤ length (now most)) × Fact (h .node .last) (h .fact .from) (h .fact .to) (h .fact .weight) × Ready (h .node .last) (now left) (now right) (now most) (now g) (now near) ⌝ }
+    requires { ⌜ (length (now kinds) ≤ mostInstructions) × (h .node .undecided ≤ length (now most)) × Fact (h .node .last) (h .fact .from) (h .fact .to) (h .fact .weight) × Growable (h .node .last) (now left) (now right) (now most) (now g) (now near) ⌝ }
     ensures { λ r. ⌜ ((F : written.Formula) → Lent (F .program) (now (kinds .entry)) (now (left .entry)) (now (right .entry)) (now (most .entry)) → Grows (now (room .entry)) (h .node .spot) (sideBy F (length (now (most .entry))) (now (g .entry)) (now (near .entry)) h) (now (room .exit)) r) ⌝ }
 {
     let n = h.node;
@@ -185,7 +185,7 @@ fn branch(
     g: &[[i64; VERTICES]; VERTICES],
     near: &[[i64; VERTICES]; VERTICES],
 ) -> Spot
-    requires { ⌜ (length (now kinds) ≤ mostInstructions) × (n .undecided ≤ length (now most)) × (0 < n .undecided) × Ready (n .last) (now left) (now right) (now most) (now g) (now near) ⌝ }
+    requires { ⌜ (length (now kinds) ≤ mostInstructions) × (n .undecided ≤ length (now most)) × (0 < n .undecided) × Growable (n .last) (now left) (now right) (now most) (now g) (now near) ⌝ }
     ensures { λ r. ⌜ ((F : written.Formula) → Lent (F .program) (now (kinds .entry)) (now (left .entry)) (now (right .entry)) (now (most .entry)) → knownKinds (now (kinds .entry)) (decisions (n .truths) (length (now (most .entry)) - n .undecided)) ≡ open? → Grows (now (room .entry)) (n .spot) (fastAt (n .last) F (length (now (most .entry)) - n .undecided) (n .truths) (now (g .entry)) (now (near .entry))) (now (room .exit)) r) ⌝ }
 {
     let decided = most.len() - n.undecided;
@@ -211,7 +211,7 @@ pub fn grow(
     g: &[[i64; VERTICES]; VERTICES],
     near: &[[i64; VERTICES]; VERTICES],
 ) -> Spot
-    requires { ⌜ (length (now kinds) ≤ mostInstructions) × (n .undecided ≤ length (now most)) × Ready (n .last) (now left) (now right) (now most) (now g) (now near) ⌝ }
+    requires { ⌜ (length (now kinds) ≤ mostInstructions) × (n .undecided ≤ length (now most)) × Growable (n .last) (now left) (now right) (now most) (now g) (now near) ⌝ }
     ensures { λ r. ⌜ ((F : written.Formula) → Lent (F .program) (now (kinds .entry)) (now (left .entry)) (now (right .entry)) (now (most .entry)) → Grows (now (room .entry)) (n .spot) (fastAt (n .last) F (length (now (most .entry)) - n .undecided) (n .truths) (now (g .entry)) (now (near .entry))) (now (room .exit)) r) ⌝ }
 {
     let truths = n.truths;

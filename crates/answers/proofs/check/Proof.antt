@@ -3,7 +3,7 @@ use denote.Ref.{now}
 use mathlib.Core.Path.{sym, ap, _∙_}
 use Rattle.question.specs.declared.types.Answer.the-variants.{Good, Refused}
 use Rattle.page_sheets.specs.Answers.{checkFor, checkOf}
-use Rattle.asking.proofs.Asks.{asked-means, asked-holds}
+use Rattle.asking.proofs.Readings.{asked-means, asked-holds}
 use Rattle.answers.proofs.check.Statement.{statement}
 use Rattle.answers.proofs.check.Tie as tie
 

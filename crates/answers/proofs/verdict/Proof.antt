@@ -1,7 +1,7 @@
 use borrow.Author.Needs.{needs}
 use denote.Ref.{now}
-use Rattle.asking.proofs.Asks.{asked-holds}
-use Rattle.answers.proofs.Asks.{verdict-good, verdict-refused}
+use Rattle.asking.proofs.Readings.{asked-holds}
+use Rattle.answers.proofs.Readings.{verdict-good, verdict-refused}
 use Rattle.answers.proofs.verdict.Statement.{statement}
 use Rattle.answers.proofs.verdict.Tie as tie
 

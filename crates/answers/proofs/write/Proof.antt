@@ -1,7 +1,7 @@
 use borrow.Author.Needs.{needs}
 use denote.Ref.{now}
-use Rattle.asking.proofs.Asks.{asked-holds}
-use Rattle.answers.proofs.Asks.{write-good, write-refused}
+use Rattle.asking.proofs.Readings.{asked-holds}
+use Rattle.answers.proofs.Readings.{write-good, write-refused}
 use Rattle.answers.proofs.write.Statement.{statement}
 use Rattle.answers.proofs.write.Tie as tie
 

@@ -1,7 +1,7 @@
 use mathlib.Core.Path.{sym, ap, _∙_}
 use borrow.Author.Needs.{needs}
-use Rattle.outcome.specs.Told.{judgedOf}
-use Rattle.capi.specs.Returned.{leaves, answer}
+use Rattle.outcome.specs.Answers.{judgedOf}
+use Rattle.capi.specs.Returns.{leaves, answer}
 use Rattle.capi.proofs.leave.Statement.{statement}
 use Rattle.capi.proofs.leave.Tie as tie
 

@@ -1,6 +1,6 @@
 use mathlib.Core.Path.{ap, _∙_}
 use borrow.Author.Needs.{needs}
-use Rattle.capi.specs.Returned.{answer}
+use Rattle.capi.specs.Returns.{answer}
 use Rattle.capi.proofs.vu_verdict.Statement.{statement}
 use Rattle.capi.proofs.vu_verdict.Tie as tie
 

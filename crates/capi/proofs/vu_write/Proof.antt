@@ -1,7 +1,7 @@
 use mathlib.Core.Path.{sym, ap, _∙_}
 use borrow.Author.Needs.{needs}
-use Rattle.outcome.specs.Told.{doneOf}
-use Rattle.capi.specs.Returned.{leavesRoom, done}
+use Rattle.outcome.specs.Answers.{doneOf}
+use Rattle.capi.specs.Returns.{leavesRoom, done}
 use Rattle.capi.proofs.vu_write.Statement.{statement}
 use Rattle.capi.proofs.vu_write.Tie as tie
 

@@ -5,9 +5,9 @@ use native.Mathlib.Omega.{arith}
 use lib.ListN.{length-map}
 use Rattle.question.specs.Held.{questionOf}
 use Rattle.page_formulas.specs.Formulas.{Formula}
-use Rattle.sights.specs.Seen.{Whole}
+use Rattle.sights.specs.Sights.{Whole}
 use Rattle.program.specs.Compiled.{Compiled, formulaOf}
-use Rattle.program.specs.Held as compiled
+use Rattle.program.specs.Formulas as compiled
 use Rattle.sights.proofs.Shapes.{columns-length}
 use Rattle.page_sheets.specs.Rows.{fields}
 use Rattle.page_sheets.specs.Sheet.{noEnd}

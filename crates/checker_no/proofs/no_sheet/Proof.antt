@@ -7,7 +7,7 @@ use Rattle.question.specs.Held.{questionOf}
 use Rattle.page_formulas.specs.Formulas.{formulas}
 use Rattle.formula.specs.Formulas.{formulaAt}
 use Rattle.page_sheets.specs.Sheet.{checkNo}
-use Rattle.formula.proofs.Fines.{fine-at}
+use Rattle.formula.proofs.ProperFormulas.{fine-at}
 use borrow.Author.Needs.{needs}
 use Rattle.checker_no.proofs.no_sheet.Statement.{statement}
 use Rattle.checker_no.proofs.no_sheet.Tie as tie

@@ -4,9 +4,9 @@ use native.Mathlib.Omega.{arith}
 use lib.ListN.{getD, take, drop, length-drop}
 use lib.Seq.{length-take-le}
 use Rattle.page_meaning.specs.Limits.{mostVertices}
-use Rattle.page_walks.proofs.Among.{below-more}
+use Rattle.page_walks.proofs.FewerVertices.{below-more}
 use Rattle.checker_nodes.specs.Nodes.{Named}
-use Rattle.checker_nodes.specs.declared.Naming.the-variants.{All, Lacking}
+use Rattle.checker_nodes.specs.declared.Naming.the-variants as naming
 use Rattle.page_sheets.proofs.Cycles.{to-the-end, cycle-end, cycle-none, cycle-many, cycle-lacking, cycle-shut, cycle-open}
 use borrow.Author.Needs.{needs}
 use Rattle.checker_nodes.proofs.cycle.Statement.{statement}
@@ -49,13 +49,13 @@ enum-told : tie.Need-enum-told
 enum-told c = search needs
 
 -- what was read
-there : (c : tie.After-enum-told) → let a = c .before .before .before .before .before .before .before .before .before .before .args in let p = a .part .now in Named (a .shown .now) (getD p (a .at + 1) 0) (drop (a .at + 1 + 1) p) All
+there : (c : tie.After-enum-told) → let a = c .before .before .before .before .before .before .before .before .before .before .args in let p = a .part .now in Named (a .shown .now) (getD p (a .at + 1) 0) (drop (a .at + 1 + 1) p) naming.Good
 there c =
     let a = c .before .before .before .before .before .before .before .before .before .before .args in
     let p = a .part .now in
     subst (λ r. Named (a .shown .now) (getD p (a .at + 1) 0) (drop (a .at + 1 + 1) p) r) (c .enum-told .given .1) (rw (to-the-end p (a .at + 1 + 1)) at (c .before .before .named .ensures))
 
-lacks : (c : tie.After-found) → let a = c .before .before .before .before .before .before .before .before .before .before .args in let p = a .part .now in Named (a .shown .now) (getD p (a .at + 1) 0) (drop (a .at + 1 + 1) p) (Lacking (c .found .given .0 .0) (c .found .given .0 .1 .0))
+lacks : (c : tie.After-found) → let a = c .before .before .before .before .before .before .before .before .before .before .args in let p = a .part .now in Named (a .shown .now) (getD p (a .at + 1) 0) (drop (a .at + 1 + 1) p) (naming.Refused (c .found .given .0 .0) (c .found .given .0 .1 .0))
 lacks c =
     let a = c .before .before .before .before .before .before .before .before .before .before .args in
     let p = a .part .now in

@@ -4,8 +4,9 @@ use native.Mathlib.Omega.{arith}
 use borrow.Author.Needs.{needs}
 use lib.ListN.{drop}
 use lib.Seq.{length-take-le}
+use Rattle.page_numbers.specs.Outcome.{good}
 use Rattle.truth.specs.Cells.{threeOf}
-use Rattle.page_sheets.specs.Tree.{falseNode, passed}
+use Rattle.page_sheets.specs.Tree.{falseNode}
 use Rattle.checker_nodes.proofs.false_leaf.Statement.{statement}
 use Rattle.checker_nodes.proofs.false_leaf.Tie as tie
 
@@ -34,7 +35,7 @@ returns : tie.Need-returns
 returns c = λ base.
     let a = c .before .before .before .before .before .before .args in
     let e : base + (a .at + 1) ≡ suc (base + a .at) = omega arith in
-    ap (λ o. passed o (drop (a .at + 1) (a .part .now))) e ∙ ap (λ t. falseNode t (base + a .at) (drop (a .at + 1) (a .part .now))) (sym (ap threeOf (c .enum-told .given .1)) ∙ c .before .before .known .ensures)
+    ap (λ o. good (o, drop (a .at + 1) (a .part .now))) e ∙ ap (λ t. falseNode t (base + a .at) (drop (a .at + 1) (a .part .now))) (sym (ap threeOf (c .enum-told .given .1)) ∙ c .before .before .known .ensures)
 
 returns-2 : tie.Need-returns-2
 returns-2 c = λ base.

@@ -7,13 +7,13 @@ use borrow.Author.Count.{below-more}
 use lib.ListN.{length, getD, take, List·getD-eq-default}
 use Rattle.page_walks.specs.Walk.{Below}
 use Rattle.page_formulas.specs.Vertices.{Ranges, present}
-use Rattle.program.specs.Lent.{Shows}
-use Rattle.page_sheets.proofs.Named.{AllShown, below-take, named-all, named-short, named-lacking}
+use Rattle.program.specs.Lent.{Flagged}
+use Rattle.page_sheets.proofs.NamedVertices.{AllShown, below-take, named-all, named-short, named-lacking}
 use Rattle.checker_nodes.proofs.named.Statement.{statement}
 use Rattle.checker_nodes.proofs.named.Tie as tie
 
 abbrev Inv-loop : tie.InvT-loop
-Inv-loop shown bytes count i₀ i = (i ≤ length bytes) × (i ≤ count) × ((rs : Ranges) → Shows shown rs → AllShown rs bytes i) × Below (length shown) (take i bytes)
+Inv-loop shown bytes count i₀ i = (i ≤ length bytes) × (i ≤ count) × ((rs : Ranges) → Flagged shown rs → AllShown rs bytes i) × Below (length shown) (take i bytes)
 
 abbrev μ-loop : tie.MeasureT-loop
 μ-loop shown bytes count i₀ i = count - i

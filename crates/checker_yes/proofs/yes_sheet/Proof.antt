@@ -12,7 +12,7 @@ use Rattle.checker_nodes.specs.Nodes.{outcomeOf}
 use Rattle.page_sheets.specs.Tree.{checkTree}
 use Rattle.page_sheets.specs.Sheet.{checkYes}
 use Rattle.page_sheets.proofs.Cycles.{to-the-end}
-use Rattle.formula.proofs.Fines.{fine-at}
+use Rattle.formula.proofs.ProperFormulas.{fine-at}
 use Rattle.checker_yes.proofs.TreeRun.{left, Inside, past-inside, tree-good, tree-bad, trees-left, trees-done}
 use borrow.Author.Needs.{needs}
 use Rattle.checker_yes.proofs.yes_sheet.Statement.{statement}

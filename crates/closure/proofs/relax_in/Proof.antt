@@ -16,7 +16,7 @@ use Rattle.page_walks.specs.Grid.{row, weight}
 use Rattle.page_walks.specs.Sizes.{wide, Bounded, filled, tabled}
 use Rattle.page_walks.proofs.Rows.{filled-more, filled-out, read}
 use Rattle.page_walks.proofs.Sums.{exact-wide}
-use Rattle.page_walks.proofs.Relaxed.{newRow, reach-bounded, on-within, row-is, grid-stays}
+use Rattle.page_walks.proofs.RelaxedRows.{newRow, reach-bounded, on-within, row-is, grid-stays}
 use Rattle.page_numbers.proofs.Bridge.{ints}
 use Rattle.page_numbers.proofs.Machine.{le-true}
 use Rattle.closure.proofs.relax_in.Statement.{statement}

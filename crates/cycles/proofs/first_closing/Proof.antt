@@ -13,7 +13,7 @@ use mir.Syntax.{w64}
 use mir.Val.{SFits, toZ, ofZ}
 use mir.Facts.{toZ-ofZ}
 use Rattle.page_walks.proofs.Sums.{exact-two, exact-three}
-use Rattle.page_walks.proofs.Bests.{first-at}
+use Rattle.page_walks.proofs.BestSums.{first-at}
 use Rattle.cycles.proofs.first_closing.Statement.{statement}
 use Rattle.cycles.proofs.first_closing.Tie as tie
 

@@ -6,7 +6,7 @@ use denote.Ref.{now}
 use lib.IntN.{pos}
 use Rattle.page_walks.specs.Grid.{weight}
 use Rattle.page_walks.specs.Search.{greedy}
-use Rattle.cycles.specs.Found.{cycleOf}
+use Rattle.cycles.specs.Found.{walkOf}
 use Rattle.cycles.proofs.Answers.{Closes, none-found, one-found, cycle-some}
 use borrow.Author.Needs.{needs}
 use Rattle.cycles.proofs.search.Statement.{statement}
@@ -16,7 +16,7 @@ shortest-requires : tie.Need-shortest-requires
 shortest-requires c κs = search needs
 
 returns : tie.Need-returns
-unfolding cycleOf
+unfolding walkOf
 returns c =
     let z = c .before .before in
     (sym (none-found (weight (now (z .args .g))) (z .args .n - 1) _ _ (c .before .shortest .ensures) (c .if1 .taken)), omega arith)

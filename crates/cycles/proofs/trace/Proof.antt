@@ -12,10 +12,10 @@ use Rattle.page_meaning.specs.Limits.{mostVertices}
 use Rattle.page_walks.specs.Grid.{row, weight, farN}
 use Rattle.page_walks.specs.Sizes.{Bounded, wide}
 use Rattle.page_walks.proofs.Rows.{read}
-use Rattle.page_walks.proofs.Bests.{row-within}
+use Rattle.page_walks.proofs.BestSums.{row-within}
 use Rattle.page_walks.proofs.Sums.{bounded-more, exact-wide}
-use Rattle.sums.proofs.Backs.{back-within}
-use Rattle.cycles.proofs.Traced.{Traced, traced-first, next-below, next-small, traced-next, traced-last}
+use Rattle.sums.proofs.SumsBack.{back-within}
+use Rattle.cycles.proofs.TracedLists.{Traced, traced-first, next-below, next-small, traced-next, traced-last}
 use Rattle.cycles.proofs.trace.Statement.{statement}
 use Rattle.cycles.proofs.trace.Tie as tie
 

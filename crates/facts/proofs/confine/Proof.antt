@@ -2,7 +2,7 @@ use mathlib.Core.Path.{_∙_}
 use native.Mathlib.Omega.{arith}
 use mir.Facts.{toZ-ofZ}
 use Rattle.page_numbers.proofs.Machine.{machine}
-use Rattle.facts.proofs.Starting.{opposite}
+use Rattle.facts.proofs.RangeFacts.{opposite}
 use borrow.Author.Needs.{needs}
 use Rattle.facts.proofs.confine.Statement.{statement}
 use Rattle.facts.proofs.confine.Tie as tie

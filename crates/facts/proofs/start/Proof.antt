@@ -13,7 +13,7 @@ use Rattle.page_walks.specs.Sizes.{AllWithin}
 use Rattle.page_formulas.specs.Vertices.{Ranges}
 use Rattle.page_sheets.specs.Facts.{confineAll, start}
 use Rattle.program.specs.Compiled.{Spanned}
-use Rattle.facts.proofs.Starting.{blank-within, confine-within, small-low, small-high, wider, start-on, start-past, start-end}
+use Rattle.facts.proofs.RangeFacts.{blank-within, confine-within, small-low, small-high, wider, start-on, start-past, start-end}
 use Rattle.facts.proofs.start.Statement.{statement}
 use Rattle.facts.proofs.start.Tie as tie
 

@@ -1,6 +1,6 @@
 -- `check::same` answers true exactly where the two words are equal.
 use mathlib.Core.Path.{refl, sym, _∙_}
-use mathlib.Core.Bool.{true, false, true≢false}
+use mathlib.Core.Bool.{true≢false}
 use mathlib.Core.Logic.{inl, inr}
 use borrow.Author.Needs.{needs}
 use Rattle.files.proofs.asked.Statement.{statement}

@@ -2,8 +2,6 @@ use mathlib.Core.Path.{refl}
 use Rattle.page_walks.specs.Grid.{blank}
 use Rattle.grid.proofs.blank.Statement.{statement}
 use Rattle.grid.proofs.blank.Tie as tie
-use Rattle.grid.proofs.blank.Reads as reads
-use Rattle.grid.proofs.blank.Lts as lts
 
 returns : tie.Need-returns
 unfolding blank

@@ -11,7 +11,7 @@ use mir.Facts.{toZ-ofZ}
 use Rattle.page_meaning.specs.Limits.{mostVertices}
 use Rattle.page_walks.specs.Grid.{row, weight}
 use Rattle.page_walks.proofs.Rows.{read}
-use Rattle.page_walks.proofs.Round.{below-at, Part, part-first, part-next, part-exact, part-last}
+use Rattle.page_walks.proofs.Rounds.{below-at, Part, part-first, part-next, part-exact, part-last}
 use Rattle.grid.proofs.closing.Statement.{statement}
 use Rattle.grid.proofs.closing.Tie as tie
 

@@ -5,8 +5,6 @@ use mir.Facts.{toZ-ofZ}
 use Rattle.page_numbers.specs.Numbers.{minZ}
 use Rattle.grid.proofs.lesser.Statement.{statement}
 use Rattle.grid.proofs.lesser.Tie as tie
-use Rattle.grid.proofs.lesser.Reads as reads
-use Rattle.grid.proofs.lesser.Lts as lts
 
 taken : (c : tie.Then1) → ltZ (c .before .args .b) (c .before .args .a) ≡ true
 taken c = simp (toZ-ofZ, c .before .fits .a, c .before .fits .b) at (c .if1 .taken)

@@ -2,7 +2,7 @@ use mathlib.Core.Path.{sym, ap, _∙_}
 use mathlib.Core.Option.{none, some}
 use mathlib.Core.List.{_++_, map}
 use lib.ListN.{getD, replicate}
-use Rattle.inserted.proofs.Fixes.{fixed-insert, fixed-none, fixed-delete, fixed-modify}
+use Rattle.inserted.proofs.FixedValues.{fixed-insert, fixed-none, fixed-delete, fixed-modify}
 use borrow.Author.Needs.{needs}
 use Rattle.inserted.proofs.fixed_at.Statement.{statement}
 use Rattle.inserted.proofs.fixed_at.Tie as tie

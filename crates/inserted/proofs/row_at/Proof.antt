@@ -1,5 +1,5 @@
 use native.Mathlib.Omega.{arith}
-use Rattle.inserted.proofs.Fixes.{row-of}
+use Rattle.inserted.proofs.FixedValues.{row-of}
 use borrow.Author.Needs.{needs}
 use Rattle.inserted.proofs.row_at.Statement.{statement}
 use Rattle.inserted.proofs.row_at.Tie as tie

@@ -2,7 +2,7 @@ use mathlib.Core.Path.{ap, _∙_}
 use mathlib.Core.Option.{some}
 use native.Mathlib.Omega.{arith}
 use mir.Facts.{toZ-ofZ}
-use Rattle.inserted.proofs.Fixes.{row-before, row-past, row-has}
+use Rattle.inserted.proofs.FixedValues.{row-before, row-past, row-has}
 use borrow.Author.Needs.{needs}
 use Rattle.inserted.proofs.row_value.Statement.{statement}
 use Rattle.inserted.proofs.row_value.Tie as tie

@@ -4,7 +4,7 @@ use denote.Ref.{now}
 use mathlib.Core.Path.{_≡_, ap, _∙_}
 use mathlib.Core.List.{_++_}
 use lib.ListN.{length, take, replicate}
-use Rattle.room.proofs.Puts.{clear-step, clear-start, clear-end}
+use Rattle.room.proofs.PutBytes.{clear-step, clear-start, clear-end}
 use Rattle.room.proofs.clear.Statement.{statement}
 use Rattle.room.proofs.clear.Tie as tie
 

@@ -4,7 +4,7 @@ use mathlib.Core.Path.{ap, _∙_}
 use mathlib.Core.Bool.{false}
 use denote.Ref.{now}
 use Rattle.room.specs.Room.{filling}
-use Rattle.room.proofs.Puts.{put-over, put-fits, put-full}
+use Rattle.room.proofs.PutBytes.{put-over, put-fits, put-full}
 use Rattle.room.proofs.put.Statement.{statement}
 use Rattle.room.proofs.put.Tie as tie
 

@@ -4,7 +4,7 @@ use denote.Ref.{now}
 use mathlib.Core.Path.{_≡_, sym, ap, _∙_}
 use lib.ListN.{length, drop}
 use Rattle.room.specs.Room.{filling, puts}
-use Rattle.room.proofs.Puts.{puts-next, puts-end}
+use Rattle.room.proofs.PutBytes.{puts-next, puts-end}
 use Rattle.room.proofs.put_all.Statement.{statement}
 use Rattle.room.proofs.put_all.Tie as tie
 

@@ -1,6 +1,6 @@
 use mir.Syntax.{w64}
 use mir.Facts.{toZ-ofZ}
-use Rattle.spreads.proofs.Spreads.{end-zero, end-there, end-none}
+use Rattle.spreads.proofs.RangeClosure.{end-zero, end-there, end-none}
 use borrow.Author.Needs.{needs}
 use Rattle.spreads.proofs.end_at.Statement.{statement}
 use Rattle.spreads.proofs.end_at.Tie as tie

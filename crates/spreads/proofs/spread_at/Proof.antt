@@ -3,7 +3,7 @@ use lib.IntN.{_-ℤ_}
 use mir.Syntax.{w64}
 use mir.Val.{SFits}
 use mir.Facts.{toZ-ofZ}
-use Rattle.spreads.proofs.Spreads.{spread-fits, spread-same, spread-other}
+use Rattle.spreads.proofs.RangeClosure.{spread-fits, spread-same, spread-other}
 use borrow.Author.Needs.{needs}
 use Rattle.spreads.proofs.spread_at.Statement.{statement}
 use Rattle.spreads.proofs.spread_at.Tie as tie

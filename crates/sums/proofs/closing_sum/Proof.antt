@@ -8,8 +8,8 @@ use Rattle.page_meaning.specs.Limits.{mostVertices}
 use Rattle.page_walks.specs.Grid.{weight, farN}
 use Rattle.page_walks.specs.Search.{best}
 use Rattle.page_walks.proofs.Rows.{read}
-use Rattle.page_walks.proofs.Bests.{row-within, least-edges, best-next}
-use Rattle.sums.proofs.Backs.{back-within}
+use Rattle.page_walks.proofs.BestSums.{row-within, least-edges, best-next}
+use Rattle.sums.proofs.SumsBack.{back-within}
 use Rattle.sums.proofs.closing_sum.Statement.{statement}
 use Rattle.sums.proofs.closing_sum.Tie as tie
 

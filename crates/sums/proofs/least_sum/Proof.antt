@@ -12,7 +12,7 @@ use mir.Facts.{toZ-ofZ}
 use Rattle.page_numbers.specs.Numbers.{minZ}
 use Rattle.page_walks.specs.Search.{least}
 use Rattle.page_walks.proofs.Sums.{exact-two}
-use Rattle.page_walks.proofs.Bests.{least-more}
+use Rattle.page_walks.proofs.BestSums.{least-more}
 use Rattle.sums.proofs.least_sum.Statement.{statement}
 use Rattle.sums.proofs.least_sum.Tie as tie
 

@@ -3,14 +3,14 @@ use Prim.Native.Nat.{_-_, _≤_, _<_}
 use native.Mathlib.Omega.{arith}
 use borrow.Author.Needs.{needs}
 use denote.Ref.{now}
-use lib.IntN.{ℤ, pos, _+ℤ_}
+use lib.IntN.{pos, _+ℤ_}
 use lib.ListN.{getD}
 use mir.Facts.{toZ-ofZ}
 use Rattle.page_walks.specs.Grid.{farN, weight}
 use Rattle.page_walks.specs.Sizes.{filled}
 use Rattle.page_walks.specs.Search.{least}
 use Rattle.page_walks.proofs.Rows.{filled-more}
-use Rattle.page_walks.proofs.Bests.{row-within, least-edges}
+use Rattle.page_walks.proofs.BestSums.{row-within, least-edges}
 use Rattle.sums.proofs.longer.Statement.{statement}
 use Rattle.sums.proofs.longer.Tie as tie
 

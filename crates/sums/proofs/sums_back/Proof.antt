@@ -5,8 +5,8 @@ use borrow.Author.Needs.{needs}
 use denote.Ref.{now}
 use lib.ListN.{length}
 use Rattle.page_meaning.specs.Limits.{mostVertices}
-use Rattle.sums.specs.Back.{Back}
-use Rattle.sums.proofs.Backs.{back-first, back-next, back-within}
+use Rattle.sums.specs.SumsBack.{Back}
+use Rattle.sums.proofs.SumsBack.{back-first, back-next, back-within}
 use Rattle.sums.proofs.sums_back.Statement.{statement}
 use Rattle.sums.proofs.sums_back.Tie as tie
 

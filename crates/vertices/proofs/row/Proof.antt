@@ -5,7 +5,7 @@ use lib.ListN.{getD}
 use mir.Syntax.{w32, w64}
 use mir.Val.{SFits}
 use mir.Facts.{toZ-ofZ}
-use Rattle.sights.specs.Seen.{noColumn}
+use Rattle.sights.specs.Sights.{noColumn}
 use Rattle.vertices.specs.Rows.{rowRanges, verticesOf, Widens}
 use Rattle.vertices.proofs.Rows.{widens-none, widens-room, widens-more, widens-all}
 use borrow.Author.Needs.{needs}

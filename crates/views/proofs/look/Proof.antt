@@ -5,8 +5,8 @@ use lib.ListN.{length, length-set}
 use denote.Ref.{now}
 use Rattle.page_formulas.specs.Costs.{mostInstructions}
 use Rattle.program_tree.specs.Nodes.{treeOf}
-use Rattle.views.specs.Seen.{Sees}
-use Rattle.views.proofs.Looks.{sees-start, sees-more}
+use Rattle.views.specs.Views.{Sees}
+use Rattle.views.proofs.SeenTruths.{sees-start, sees-more}
 use Rattle.views.proofs.look.Statement.{statement}
 use Rattle.views.proofs.look.Tie as tie
 

@@ -1,4 +1,4 @@
-use Rattle.views.proofs.Looks.{constant-other}
+use Rattle.views.proofs.SeenTruths.{constant-other}
 use borrow.Author.Needs.{needs}
 use Rattle.views.proofs.seen_constant.Statement.{statement}
 use Rattle.views.proofs.seen_constant.Tie as tie

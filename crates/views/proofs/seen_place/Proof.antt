@@ -11,8 +11,8 @@ use Rattle.page_meaning.specs.Limits.{mostVertices}
 use Rattle.page_walks.specs.Grid.{row, weight}
 use Rattle.page_walks.proofs.Rows.{read}
 use Rattle.program_tree.specs.Nodes.{placeOf}
-use Rattle.goals.proofs.Tightens.{sum-fits}
-use Rattle.views.proofs.Looks.{seen-passes, seen-fails, seen-open}
+use Rattle.goals.proofs.Tightening.{sum-fits}
+use Rattle.views.proofs.SeenTruths.{seen-passes, seen-fails, seen-open}
 use Rattle.views.proofs.seen_place.Statement.{statement}
 use Rattle.views.proofs.seen_place.Tie as tie
 

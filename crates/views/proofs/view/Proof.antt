@@ -6,9 +6,9 @@ use denote.Ref.{now}
 use borrow.Author.Needs.{needs}
 use Rattle.truth.specs.Cells.{joinedBy}
 use Rattle.program_tree.specs.Nodes.{Placed, treeOf, firstAt}
-use Rattle.views.specs.Seen.{threeBy, seenPlace}
-use Rattle.goals.proofs.Tightens.{held-most}
-use Rattle.views.proofs.Looks.{shows-place, shows-constant, shows-not, shows-joined, after-some}
+use Rattle.views.specs.Views.{threeBy, seenPlace}
+use Rattle.goals.proofs.Tightening.{held-most}
+use Rattle.views.proofs.SeenTruths.{shows-place, shows-constant, shows-not, shows-joined, after-some}
 use Rattle.views.proofs.view.Statement.{statement}
 use Rattle.views.proofs.view.Tie as tie
 

@@ -2,7 +2,7 @@ use borrow.Author.Needs.{needs}
 use denote.Ref.{now}
 use Rattle.question.specs.Held.{questionOf}
 use Rattle.outcome.specs.declared.Verdict.the-variants.{Yes, No}
-use Rattle.writer.proofs.Lays.{is-open, is-shut, says-no, says-yes, lays}
+use Rattle.writer.proofs.Layouts.{is-open, is-shut, says-no, says-yes, lays}
 use Rattle.writer.proofs.lay.Statement.{statement}
 use Rattle.writer.proofs.lay.Tie as tie
 

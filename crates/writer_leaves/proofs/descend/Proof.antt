@@ -13,18 +13,18 @@ use mir.Val.{toZ, ofZ}
 use Rattle.page_meaning.specs.Limits.{mostDecisions}
 use Rattle.page_walks.specs.Grid.{weight, farN}
 use Rattle.page_walks.specs.Sizes.{tabled, Bounded}
-use Rattle.page_walks.specs.Near.{relax, Triangle}
+use Rattle.page_walks.specs.Nearness.{relax, Triangle}
 use Rattle.page_formulas.specs.Kinds.{knownKinds}
 use Rattle.program.specs.Lent.{placeAt}
 use Rattle.program_tree.specs.Nodes.{treeOf}
 use Rattle.page_sheets.specs.Facts.{taken}
 use Rattle.grid.specs.Edges.{Fact}
-use Rattle.goals.proofs.Tightens.{tight-within}
+use Rattle.goals.proofs.Tightening.{tight-within}
 use Rattle.writer_trees.specs.Trees.{decisions}
 use Rattle.writer_leaves.specs.Leaves.{passing}
 use Rattle.writer_trees.proofs.Growths.{fact-bounded, fact-fits}
 use Rattle.writer_leaves.proofs.Descents.{leading-leaf, leading-end}
-use Rattle.writer_leaves.proofs.Tries.{passing-is, Going, going-start, going-true, going-false}
+use Rattle.writer_leaves.proofs.Attempts.{passing-is, Going, going-start, going-true, going-false}
 use borrow.Author.Needs.{needs}
 use Rattle.writer_leaves.proofs.descend.Statement.{statement}
 use Rattle.writer_leaves.proofs.descend.Tie as tie

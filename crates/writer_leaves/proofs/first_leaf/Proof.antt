@@ -4,17 +4,17 @@ use mathlib.Core.Path.{_≡_, refl, sym}
 use denote.Ref.{now}
 use lib.ListN.{length}
 use Rattle.page_formulas.specs.Formulas.{Formula}
-use Rattle.page_formulas.specs.Proper.{Proper}
+use Rattle.page_formulas.specs.ProperFormulas.{Proper}
 use Rattle.program.specs.Lent.{Coded}
-use Rattle.program.specs.Held as compiled
+use Rattle.program.specs.Formulas as compiled
 use Rattle.program.specs.Compiled.{Compiled, formulaOf}
-use Rattle.program.proofs.Lends.{kinds-long, places-long}
+use Rattle.program.proofs.Loans.{kinds-long, places-long}
 use Rattle.program.proofs.Ranges.{coded-of, ranging-of, ranged}
 use Rattle.page_meaning.specs.Limits.{mostVertices}
 use Rattle.page_walks.proofs.Rows.{sized}
 use Rattle.program_tree.specs.Nodes.{treeOf, Tells}
 use Rattle.program_tree.proofs.Trees.{plantable, tells}
-use Rattle.writer_trees.proofs.Plants.{Begun, begun-of}
+use Rattle.writer_trees.proofs.RootTrees.{Begun, begun-of}
 use Rattle.writer_leaves.proofs.Roots.{root-opening, root-values, root-descendable, root-leaf}
 use borrow.Author.Needs.{needs}
 use Rattle.writer_leaves.proofs.first_leaf.Statement.{statement}

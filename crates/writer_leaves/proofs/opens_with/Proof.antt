@@ -12,12 +12,12 @@ use Rattle.page_meaning.specs.Limits.{mostVertices}
 use Rattle.page_walks.specs.Grid.{weight}
 use Rattle.page_walks.specs.Sizes.{tabled, Sized}
 use Rattle.page_walks.proofs.Rows.{tabled-sized}
-use Rattle.page_walks.specs.Near.{relax, Triangle}
-use Rattle.goals.specs.Closed.{Tight}
-use Rattle.goals.proofs.Tightens.{tight-within, sum-fits, below-zero, from-zero}
+use Rattle.page_walks.specs.Nearness.{relax, Triangle}
+use Rattle.goals.specs.Closures.{Tight}
+use Rattle.goals.proofs.Tightening.{tight-within, sum-fits, below-zero, from-zero}
 use Rattle.writer_trees.specs.Trees.{with}
 use Rattle.writer_trees.proofs.Growths.{fact-bounded, fact-fits, with-closer}
-use Rattle.writer_leaves.proofs.Tries.{answered}
+use Rattle.writer_leaves.proofs.Attempts.{answered}
 use borrow.Author.Needs.{needs}
 use Rattle.writer_leaves.proofs.opens_with.Statement.{statement}
 use Rattle.writer_leaves.proofs.opens_with.Tie as tie

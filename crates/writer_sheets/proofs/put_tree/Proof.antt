@@ -2,7 +2,7 @@ use borrow.Author.Needs.{needs}
 use Rattle.question.specs.Held.{questionOf}
 use Rattle.page_formulas.specs.Formulas.{formulas}
 use Rattle.formula.specs.Formulas.{formulaAt}
-use Rattle.formula.proofs.Fines.{proper-at}
+use Rattle.formula.proofs.ProperFormulas.{proper-at}
 use Rattle.writer_sheets.proofs.put_tree.Statement.{statement}
 use Rattle.writer_sheets.proofs.put_tree.Tie as tie
 

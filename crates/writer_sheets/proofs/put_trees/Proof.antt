@@ -7,7 +7,7 @@ use denote.Ref.{now}
 use lib.ListN.{length}
 use Rattle.question.specs.Held.{questionOf}
 use Rattle.page_formulas.specs.Formulas.{formulas}
-use Rattle.writer_sheets.proofs.Sowings.{Sown, sown-start, sown-more, sown-over, sown-end}
+use Rattle.writer_sheets.proofs.Trees.{Sown, sown-start, sown-more, sown-over, sown-end}
 use Rattle.writer_sheets.proofs.put_trees.Statement.{statement}
 use Rattle.writer_sheets.proofs.put_trees.Tie as tie
 

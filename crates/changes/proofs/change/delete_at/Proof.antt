@@ -1,7 +1,7 @@
 use native.Mathlib.Omega.{arith}
 use mathlib.Core.Path.{refl, sym, ap, _∙_}
 use Rattle.page_questions.specs.Reader.{deleteAt}
-use Rattle.tokens.specs.Words.{clauseBy}
+use Rattle.tokens.specs.Tokens.{conditionMeant}
 use Rattle.question.specs.declared.types.Answer.{Answer}
 use Rattle.page_questions.proofs.Steps.{on-good, on-bad}
 use borrow.Author.Needs.{needs}
@@ -17,15 +17,15 @@ enum-told c = search needs
 enum-known-answer : tie.Need-enum-known-answer
 enum-known-answer c = search needs
 
-no-deed-requires : tie.Need-no-deed-requires
-no-deed-requires c κs = search needs
+refused-change-requires : tie.Need-refused-change-requires
+refused-change-requires c κs = search needs
 
 returns : tie.Need-returns
 unfolding deleteAt
 returns c =
     let k = c .before .before .before .condition-at in
     λ width. record {
-      meaning = on-good _ (sym (ap (λ (a : Answer). clauseBy a (k .result .condition) (k .result .next)) (c .enum-told .given .1)) ∙ k .ensures .meaning) refl;
+      meaning = on-good _ (sym (ap (λ (a : Answer). conditionMeant a (k .result .condition) (k .result .next)) (c .enum-told .given .1)) ∙ k .ensures .meaning) refl;
       held = record { fewRows = omega arith; fewTokens = k .ensures .fewTokens };
     }
 
@@ -36,12 +36,12 @@ returns-2 c =
     let k = t .before .before .before .condition-at in
     λ width. record {
       meaning =
-          c .no-deed .ensures width .meaning
-          ∙ on-bad _ (sym (ap (λ (a : Answer). clauseBy a (k .result .condition) (k .result .next)) (t .answer .given .1)) ∙ k .ensures .meaning);
-      held = c .no-deed .ensures width .held;
+          c .refused-change .ensures width .meaning
+          ∙ on-bad _ (sym (ap (λ (a : Answer). conditionMeant a (k .result .condition) (k .result .next)) (t .answer .given .1)) ∙ k .ensures .meaning);
+      held = c .refused-change .ensures width .held;
     }
 
 pub delete-at-spec : {M : Type 1} → statement M
 delete-at-spec =
     tie.close
-    (tie.spec condition-at-requires enum-told enum-known-answer no-deed-requires returns returns-2)
+    (tie.spec condition-at-requires enum-told enum-known-answer refused-change-requires returns returns-2)

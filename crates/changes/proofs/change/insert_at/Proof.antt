@@ -32,8 +32,8 @@ inserted-requires c κs =
 enum-known-b-2 : tie.Need-enum-known-b-2
 enum-known-b-2 c = search needs
 
-no-deed-requires : tie.Need-no-deed-requires
-no-deed-requires c κs = search needs
+refused-change-requires : tie.Need-refused-change-requires
+refused-change-requires c κs = search needs
 
 returns : tie.Need-returns
 unfolding insertAt
@@ -52,8 +52,8 @@ unfolding insertAt
 returns-2 c =
     let b = c .before .before in
     record {
-      meaning = c .no-deed .ensures _ .meaning ∙ on-bad _ (sym (ap byteOf (b .b2 .given .1)) ∙ b .before .before .byte-at .ensures);
-      held = c .no-deed .ensures 0 .held;
+      meaning = c .refused-change .ensures _ .meaning ∙ on-bad _ (sym (ap byteOf (b .b2 .given .1)) ∙ b .before .before .byte-at .ensures);
+      held = c .refused-change .ensures 0 .held;
     }
 
 pub insert-at-spec : {M : Type 1} → statement M
@@ -66,6 +66,6 @@ insert-at-spec =
     rows-at-requires
     inserted-requires
     enum-known-b-2
-    no-deed-requires
+    refused-change-requires
     returns
     returns-2)

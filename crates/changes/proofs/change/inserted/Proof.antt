@@ -13,8 +13,8 @@ always-requires c κs = search needs
 enum-known-answer : tie.Need-enum-known-answer
 enum-known-answer c = search needs
 
-no-deed-requires : tie.Need-no-deed-requires
-no-deed-requires c κs = search needs
+refused-change-requires : tie.Need-refused-change-requires
+refused-change-requires c κs = search needs
 
 returns : tie.Need-returns
 returns c =
@@ -24,9 +24,9 @@ returns c =
     }
 
 returns-2 : tie.Need-returns-2
-returns-2 c = λ width. rw (c .before .before .answer .given .1) (c .no-deed .ensures width)
+returns-2 c = λ width. rw (c .before .before .answer .given .1) (c .refused-change .ensures width)
 
 pub inserted-spec : {M : Type 1} → statement M
 inserted-spec =
     tie.close
-    (tie.spec enum-told always-requires enum-known-answer no-deed-requires returns returns-2)
+    (tie.spec enum-told always-requires enum-known-answer refused-change-requires returns returns-2)

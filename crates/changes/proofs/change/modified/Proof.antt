@@ -10,8 +10,8 @@ enum-told c = search needs
 enum-known-answer : tie.Need-enum-known-answer
 enum-known-answer c = search needs
 
-no-deed-requires : tie.Need-no-deed-requires
-no-deed-requires c κs = search needs
+refused-change-requires : tie.Need-refused-change-requires
+refused-change-requires c κs = search needs
 
 returns : tie.Need-returns
 returns c =
@@ -21,7 +21,7 @@ returns c =
     }
 
 returns-2 : tie.Need-returns-2
-returns-2 c = rw (c .before .before .answer .given .1) (c .no-deed .ensures _)
+returns-2 c = rw (c .before .before .answer .given .1) (c .refused-change .ensures _)
 
 pub modified-spec : {M : Type 1} → statement M
-modified-spec = tie.close (tie.spec enum-told enum-known-answer no-deed-requires returns returns-2)
+modified-spec = tie.close (tie.spec enum-told enum-known-answer refused-change-requires returns returns-2)

@@ -2,7 +2,7 @@ use mathlib.Core.Path.{sym, ap, _∙_}
 use Rattle.page_meaning.specs.Contents.{modify}
 use Rattle.page_questions.specs.Reader.{modifyAt, andThen, found}
 use Rattle.question.specs.Held.{conditionOf}
-use Rattle.tokens.specs.Words.{clauseBy}
+use Rattle.tokens.specs.Tokens.{conditionMeant}
 use Rattle.question.specs.declared.types.Answer.{Answer}
 use Rattle.page_questions.proofs.Steps.{on-good, on-bad}
 use borrow.Author.Needs.{needs}
@@ -27,8 +27,8 @@ modified-requires c κs = search needs
 enum-known-answer : tie.Need-enum-known-answer
 enum-known-answer c = search needs
 
-no-deed-requires : tie.Need-no-deed-requires
-no-deed-requires c κs = search needs
+refused-change-requires : tie.Need-refused-change-requires
+refused-change-requires c κs = search needs
 
 returns : tie.Need-returns
 unfolding modifyAt
@@ -38,7 +38,7 @@ returns c =
     let k = t .before .before .before .condition-at in
     record {
       meaning =
-          on-good _ (sym (ap (λ (a : Answer). clauseBy a (k .result .condition) (k .result .next)) (t .enum-told .given .1)) ∙ k .ensures .meaning)
+          on-good _ (sym (ap (λ (a : Answer). conditionMeant a (k .result .condition) (k .result .next)) (t .enum-told .given .1)) ∙ k .ensures .meaning)
           (c .modified .ensures .meaning ∙ ap (λ o. andThen o (λ ms q. found (modify (conditionOf (k .result .condition)) ms) q)) (m .modes-at .ensures .meaning));
       held = c .modified .ensures .held;
     }
@@ -50,9 +50,9 @@ returns-2 c =
     let k = t .before .before .before .condition-at in
     record {
       meaning =
-          c .no-deed .ensures _ .meaning
-          ∙ on-bad _ (sym (ap (λ (a : Answer). clauseBy a (k .result .condition) (k .result .next)) (t .answer .given .1)) ∙ k .ensures .meaning);
-      held = c .no-deed .ensures 0 .held;
+          c .refused-change .ensures _ .meaning
+          ∙ on-bad _ (sym (ap (λ (a : Answer). conditionMeant a (k .result .condition) (k .result .next)) (t .answer .given .1)) ∙ k .ensures .meaning);
+      held = c .refused-change .ensures 0 .held;
     }
 
 pub modify-at-spec : {M : Type 1} → statement M
@@ -65,6 +65,6 @@ modify-at-spec =
     modes-at-requires
     modified-requires
     enum-known-answer
-    no-deed-requires
+    refused-change-requires
     returns
     returns-2)

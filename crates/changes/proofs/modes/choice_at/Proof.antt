@@ -1,7 +1,7 @@
 use mathlib.Core.Path.{ap, _∙_}
 use borrow.Author.Tests.{ne-eqb}
 use Rattle.page_questions.specs.Reader.{andThen}
-use Rattle.changes.specs.Deeds.{choiceAt, chosenBy}
+use Rattle.changes.specs.Changes.{choiceAt, chosenBy}
 use Rattle.changes.proofs.ModeLaws.{operands-then}
 use borrow.Author.Needs.{needs}
 use Rattle.changes.proofs.modes.choice_at.Statement.{statement}

@@ -1,7 +1,7 @@
 use mathlib.Core.Path.{sym, ap, _∙_}
 use Rattle.page_questions.specs.Reader.{modeAt}
 use Rattle.fields.specs.Bytes.{byteOf}
-use Rattle.changes.specs.Deeds.{choiceAt}
+use Rattle.changes.specs.Changes.{choiceAt}
 use Rattle.page_questions.proofs.Steps.{on-good, on-bad}
 use borrow.Author.Needs.{needs}
 use Rattle.changes.proofs.modes.mode_at.Statement.{statement}

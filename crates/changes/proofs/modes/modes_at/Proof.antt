@@ -5,7 +5,7 @@ use Prim.Native.Nat.{_-_}
 use Rattle.page_meaning.specs.Limits.{mostColumns}
 use Rattle.page_questions.specs.Reader.{many, modeAt}
 use Rattle.question.specs.Held.{settingOf}
-use Rattle.changes.specs.Deeds.{choiceOf}
+use Rattle.changes.specs.Changes.{modeMeant}
 use Rattle.page_questions.proofs.Loops.{Going, going-start, going-on, going-bad, going-end}
 use Rattle.changes.proofs.modes.modes_at.Statement.{statement}
 use Rattle.changes.proofs.modes.modes_at.Tie as tie
@@ -43,7 +43,7 @@ loop-again c =
     let w = c .before in
     let l = w .before .before .before .before in
     going-on _ _ _ _ _ _ _ _ (l .loop .inv) (w .before .before .before .loop-test .taken) _ _ (l .before .before .pre)
-    (sym (ap choiceOf (w .choice .given .1)) ∙ w .before .before .mode-at .ensures)
+    (sym (ap modeMeant (w .choice .given .1)) ∙ w .before .before .mode-at .ensures)
 
 enum-known-choice-2 : tie.Need-enum-known-choice-2 Inv-loop μ-loop
 enum-known-choice-2 c = search needs
@@ -55,7 +55,7 @@ returns c =
     record {
       meaning =
           going-bad _ _ _ _ _ _ _ _ (l .loop .inv) (w .before .before .before .loop-test .taken) _ _
-          (sym (ap choiceOf (w .choice2 .given .1)) ∙ w .before .before .mode-at .ensures);
+          (sym (ap modeMeant (w .choice2 .given .1)) ∙ w .before .before .mode-at .ensures);
     }
 
 returns-2 : tie.Need-returns-2 Inv-loop μ-loop

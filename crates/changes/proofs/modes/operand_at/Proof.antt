@@ -1,7 +1,7 @@
 use mathlib.Core.Path.{sym, ap, _∙_}
 use mir.Facts.{toZ-ofZ}
 use Rattle.fields.specs.Bytes.{byteOf, numberOf}
-use Rattle.changes.specs.Deeds.{operandsAt}
+use Rattle.changes.specs.Changes.{operandsAt}
 use Rattle.page_questions.proofs.Steps.{on-good, on-bad}
 use borrow.Author.Needs.{needs}
 use Rattle.changes.proofs.modes.operand_at.Statement.{statement}

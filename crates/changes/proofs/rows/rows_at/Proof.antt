@@ -6,7 +6,7 @@ use mathlib.Core.List.{[]}
 use Prim.Native.Nat.{_-_}
 use Rattle.page_questions.specs.Reader.{many, rowAt}
 use Rattle.question.specs.Held.{rowOf}
-use Rattle.changes.specs.Deeds.{lineBy}
+use Rattle.changes.specs.Changes.{rowMeant}
 use Rattle.question.specs.Parts.{rangesAt}
 use Rattle.page_questions.proofs.Loops.{Going, going-start, going-on, going-bad, going-end}
 use Rattle.changes.proofs.rows.rows_at.Statement.{statement}
@@ -45,9 +45,9 @@ loop-again c =
     let t = c .before in
     let r = t .before .before in
     let l = r .before .before in
-    let line = r .row-at .result in
+    let read = r .row-at .result in
     going-on _ _ _ _ _ _ _ _ (l .loop .inv) (r .before .loop-test .taken) _ _ (l .before .before .pre .1 .1)
-    (sym (ap (λ (a : Answer). lineBy a (l .before .before .args .width) (line .row) (line .next)) (t .enum-told .given .1)) ∙ r .row-at .ensures .meaning)
+    (sym (ap (λ (a : Answer). rowMeant a (l .before .before .args .width) (read .row) (read .next)) (t .enum-told .given .1)) ∙ r .row-at .ensures .meaning)
 
 enum-known-answer : tie.Need-enum-known-answer Inv-loop μ-loop
 enum-known-answer c = search needs
@@ -57,11 +57,11 @@ returns c =
     let t = c .before in
     let r = t .before .before in
     let l = r .before .before in
-    let line = r .row-at .result in
+    let read = r .row-at .result in
     record {
       meaning =
           going-bad _ _ _ _ _ _ _ _ (l .loop .inv) (r .before .loop-test .taken) _ _
-          (sym (ap (λ (a : Answer). lineBy a (l .before .before .args .width) (line .row) (line .next)) (t .answer .given .1)) ∙ r .row-at .ensures .meaning);
+          (sym (ap (λ (a : Answer). rowMeant a (l .before .before .args .width) (read .row) (read .next)) (t .answer .given .1)) ∙ r .row-at .ensures .meaning);
     }
 
 returns-2 : tie.Need-returns-2 Inv-loop μ-loop

@@ -4,7 +4,7 @@ use mir.Syntax.{w32}
 use mir.Val.{SFits}
 use Rattle.page_sheets.specs.Rows.{matches}
 use Rattle.page_meaning.specs.Condition.{holds, equal}
-use Rattle.inserted.specs.Fixed.{optionOf}
+use Rattle.inserted.specs.FixedValues.{optionOf}
 use borrow.Author.Needs.{needs}
 use Rattle.checker_rows.proofs.allowances.change_allows.Statement.{statement}
 use Rattle.checker_rows.proofs.allowances.change_allows.Tie as tie

@@ -3,7 +3,7 @@ use mathlib.Core.Bool.{true, false}
 use mir.Facts.{toZ-ofZ}
 use Rattle.question.specs.Held.{questionOf}
 use Rattle.page_sheets.specs.Rows.{inColumn, fixed, matches}
-use Rattle.checker_rows.proofs.Allowed.{and-so, and-not}
+use Rattle.checker_rows.proofs.AllowedValues.{and-so, and-not}
 use borrow.Author.Needs.{needs}
 use Rattle.checker_rows.proofs.allowances.first_allows.Statement.{statement}
 use Rattle.checker_rows.proofs.allowances.first_allows.Tie as tie

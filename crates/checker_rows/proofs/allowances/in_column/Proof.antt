@@ -1,6 +1,6 @@
 use mathlib.Core.Path.{_∙_}
 use mir.Facts.{toZ-ofZ}
-use Rattle.checker_rows.proofs.Allowed.{in-column}
+use Rattle.checker_rows.proofs.AllowedValues.{in-column}
 use borrow.Author.Needs.{needs}
 use Rattle.checker_rows.proofs.allowances.in_column.Statement.{statement}
 use Rattle.checker_rows.proofs.allowances.in_column.Tie as tie

@@ -6,7 +6,7 @@ use Rattle.question.specs.Held.{questionOf}
 use Rattle.page_formulas.specs.Formulas.{among}
 use Rattle.sights.proofs.Shapes.{visible-is}
 use Rattle.page_sheets.specs.Rows.{inColumn}
-use Rattle.checker_rows.proofs.Allowed.{and-so, and-not, shown-so, hidden-so}
+use Rattle.checker_rows.proofs.AllowedValues.{and-so, and-not, shown-so, hidden-so}
 use borrow.Author.Needs.{needs}
 use Rattle.checker_rows.proofs.allowances.second_allows.Statement.{statement}
 use Rattle.checker_rows.proofs.allowances.second_allows.Tie as tie

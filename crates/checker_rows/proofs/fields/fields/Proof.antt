@@ -3,9 +3,10 @@ use mathlib.Core.Path.{_≡_, sym, ap, _∙_}
 use native.Mathlib.Omega.{arith}
 use borrow.Author.Needs.{needs}
 use lib.ListN.{length}
+use Rattle.page_numbers.specs.Outcome.{refused}
 use Rattle.question.specs.Held.{questionOf}
 use Rattle.page_sheets.specs.Rows.{fieldAt, fieldOk}
-use Rattle.page_sheets.specs.Sheet.{Answer, refusal, checkFields}
+use Rattle.page_sheets.specs.Sheet.{Answer, checkFields}
 use Rattle.page_sheets.proofs.FieldRun.{fields-end, fields-short, fields-bad, fields-on}
 use Rattle.checker_rows.proofs.fields.fields.Statement.{statement}
 use Rattle.checker_rows.proofs.fields.fields.Tie as tie
@@ -35,7 +36,7 @@ returns c =
     let a = c .before .before .before .before .before .args in
     let s = a .sheet .now in
     let e = c .before .field-at .ensures in
-    record { meaning = λ next. ap (λ p. refusal 11 p) e ∙ sym (fields-short (fieldOk (questionOf (a .q)) (a .i) s) s (a .count) (l .j) next (c .before .before .loop-test .taken) (omega (arith, e, c .if1 .taken))) ∙ l .inv .2 next; inside = tt }
+    record { meaning = λ next. ap (λ p. refused 11 p) e ∙ sym (fields-short (fieldOk (questionOf (a .q)) (a .i) s) s (a .count) (l .j) next (c .before .before .loop-test .taken) (omega (arith, e, c .if1 .taken))) ∙ l .inv .2 next; inside = tt }
 
 field-allows-requires : tie.Need-field-allows-requires Inv-loop μ-loop
 field-allows-requires c κs =
@@ -67,7 +68,7 @@ returns-2 c =
     let a = f .before .before .before .before .args in
     let s = a .sheet .now in
     let e = f .field-at .ensures in
-    record { meaning = λ next. ap (λ p. refusal 15 p) e ∙ sym (fields-bad (fieldOk (questionOf (a .q)) (a .i) s) s (a .count) (l .j) next (f .before .loop-test .taken) (omega (arith, e, c .before .before .if1 .left)) (sym (c .before .field-allows .ensures) ∙ c .if2 .left)) ∙ l .inv .2 next; inside = tt }
+    record { meaning = λ next. ap (λ p. refused 15 p) e ∙ sym (fields-bad (fieldOk (questionOf (a .q)) (a .i) s) s (a .count) (l .j) next (f .before .loop-test .taken) (omega (arith, e, c .before .before .if1 .left)) (sym (c .before .field-allows .ensures) ∙ c .if2 .left)) ∙ l .inv .2 next; inside = tt }
 
 returns-3 : tie.Need-returns-3 Inv-loop μ-loop
 returns-3 c =

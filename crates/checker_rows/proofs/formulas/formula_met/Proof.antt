@@ -4,11 +4,11 @@ use lib.ListN.{length, take}
 use Rattle.page_sheets.specs.Rows.{readValues}
 use Rattle.program.specs.Compiled.{formulaOf}
 use Rattle.program.specs.Lent.{Places}
-use Rattle.program.specs.Held.{Formula}
-use Rattle.program.proofs.Lends.{kinds-long, places-long, lent-of, count-few, places-of}
+use Rattle.program.specs.Formulas.{Formula}
+use Rattle.program.proofs.Loans.{kinds-long, places-long, lent-of, count-few, places-of}
 use Rattle.program.proofs.Ranges.{coded-of}
 use Rattle.checker_rows.specs.NoSheet.{seen}
-use Rattle.checker_rows.proofs.Valued.{seen-read}
+use Rattle.checker_rows.proofs.FieldValues.{seen-read}
 use borrow.Author.Needs.{needs}
 use Rattle.checker_rows.proofs.formulas.formula_met.Statement.{statement}
 use Rattle.checker_rows.proofs.formulas.formula_met.Tie as tie

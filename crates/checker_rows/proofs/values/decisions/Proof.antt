@@ -5,10 +5,10 @@ use borrow.Author.Needs.{needs}
 use lib.ListN.{length, getD, length-set}
 use mir.Facts.{toZ-ofZ}
 use Rattle.page_meaning.specs.Limits.{mostVertices, mostDecisions}
-use Rattle.page_walks.proofs.Round.{below-at}
+use Rattle.page_walks.proofs.Rounds.{below-at}
 use Rattle.truth.specs.Cells.{bit}
 use Rattle.checker_rows.specs.NoSheet.{testAt}
-use Rattle.checker_rows.proofs.Valued.{tested-more}
+use Rattle.checker_rows.proofs.FieldValues.{tested-more}
 use Rattle.checker_rows.proofs.values.decisions.Statement.{statement}
 use Rattle.checker_rows.proofs.values.decisions.Tie as tie
 

@@ -4,7 +4,7 @@ use lib.IntN.{pos, _+ℤ_}
 use lib.Signed.{leZ}
 use lib.ListN.{getD}
 use mir.Facts.{toZ-ofZ}
-use Rattle.checker_rows.proofs.Valued.{sum-fits}
+use Rattle.checker_rows.proofs.FieldValues.{sum-fits}
 use borrow.Author.Needs.{needs}
 use Rattle.checker_rows.proofs.values.place_truth.Statement.{statement}
 use Rattle.checker_rows.proofs.values.place_truth.Tie as tie

@@ -10,13 +10,13 @@ use mir.Facts.{toZ-ofZ}
 use Rattle.page_meaning.specs.Limits.{mostVertices}
 use Rattle.page_numbers.specs.Bytes.{int32}
 use Rattle.page_sheets.specs.Rows.{valueAt}
-use Rattle.checker_rows.specs.NoSheet.{seen, Small}
-use Rattle.checker_rows.proofs.Valued.{seen-none, seen-more, small-none, small-more}
+use Rattle.checker_rows.specs.NoSheet.{seen, AllInt32}
+use Rattle.checker_rows.proofs.FieldValues.{seen-none, seen-more, small-none, small-more}
 use Rattle.checker_rows.proofs.values.values.Statement.{statement}
 use Rattle.checker_rows.proofs.values.values.Tie as tie
 
 abbrev Inv-loop : tie.InvT-loop
-Inv-loop sheet count x₀ j₀ x j = (j ≤ count) × (length x ≡ mostVertices) × ((v : ℕ) → getD x v (pos 0) ≡ seen sheet j v) × Small x
+Inv-loop sheet count x₀ j₀ x j = (j ≤ count) × (length x ≡ mostVertices) × ((v : ℕ) → getD x v (pos 0) ≡ seen sheet j v) × AllInt32 x
 
 abbrev μ-loop : tie.MeasureT-loop
 μ-loop sheet count x₀ j₀ x j = count - j

@@ -5,10 +5,10 @@ use lib.ListN.{length, length-map, take}
 use Rattle.page_meaning.specs.Limits.{mostVertices}
 use Rattle.page_walks.proofs.Rows.{sized}
 use Rattle.program.specs.Compiled.{formulaOf}
-use Rattle.program.specs.Held.{Formula}
-use Rattle.program.proofs.Lends.{kinds-long, places-long, lent-of, shows-of, count-few, places-of, spanned-of, small-spans, same-few}
+use Rattle.program.specs.Formulas.{Formula}
+use Rattle.program.proofs.Loans.{kinds-long, places-long, lent-of, shows-of, count-few, places-of, spanned-of, small-spans, same-few}
 use Rattle.program.proofs.Ranges.{coded-of}
-use Rattle.checker_trees.proofs.Standing.{left-all}
+use Rattle.checker_trees.proofs.NodeReading.{left-all}
 use borrow.Author.Needs.{needs}
 use Rattle.checker_trees.proofs.formulas.formula_tree.Statement.{statement}
 use Rattle.checker_trees.proofs.formulas.formula_tree.Tie as tie

@@ -6,11 +6,11 @@ use borrow.Author.Needs.{needs}
 use lib.ListN.{length, length-map}
 use mir.Facts.{toZ-ofZ}
 use Rattle.page_meaning.specs.Limits.{mostVertices, mostDecisions}
-use Rattle.page_walks.proofs.Round.{below-at}
+use Rattle.page_walks.proofs.Rounds.{below-at}
 use Rattle.page_walks.proofs.Grids.{tighten-sized}
 use Rattle.page_sheets.specs.Facts.{decide}
 use Rattle.program.specs.Lent.{placeAt}
-use Rattle.checker_trees.proofs.Standing.{left-end, left-false, left-cycle, left-other, left-none, left-bad, left-both}
+use Rattle.checker_trees.proofs.NodeReading.{left-end, left-false, left-cycle, left-other, left-none, left-bad, left-both}
 use Rattle.page_sheets.proofs.Bounds.{decide-within}
 use Rattle.checker_trees.specs.declared.trees.Stage.{Stage}
 use borrow.Fn.Kinds.{In}

@@ -1,7 +1,7 @@
 use mathlib.Core.Path.{sym, _∙_}
 use lib.ListN.{length-map}
-use Rattle.formula.proofs.Counted.{delete-count, modify-first, modify-second}
-use Rattle.formula.proofs.Ready.{able}
+use Rattle.formula.proofs.Counts.{delete-count, modify-first, modify-second}
+use Rattle.formula.proofs.Readiness.{able}
 use borrow.Author.Needs.{needs}
 use Rattle.formula.proofs.formulas.formula_count.Statement.{statement}
 use Rattle.formula.proofs.formulas.formula_count.Tie as tie

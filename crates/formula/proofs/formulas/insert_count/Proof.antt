@@ -1,4 +1,4 @@
-use Rattle.formula.proofs.Counted.{first-count, alone-count, together-count}
+use Rattle.formula.proofs.Counts.{first-count, alone-count, together-count}
 use Rattle.formula.proofs.formulas.insert_count.Statement.{statement}
 use Rattle.formula.proofs.formulas.insert_count.Tie as tie
 

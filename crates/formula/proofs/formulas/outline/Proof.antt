@@ -5,11 +5,11 @@ use Rattle.question.specs.Held.{questionOf}
 use Rattle.page_formulas.specs.Costs.{Fits}
 use Rattle.page_formulas.specs.Formulas as F
 use Rattle.program.specs.Compiled.{Spans}
-use Rattle.sights.specs.Seen.{Whole}
-use Rattle.formula_deeds.specs.Deeds.{Buildable}
+use Rattle.sights.specs.Sights.{Whole}
+use Rattle.formula_contexts.specs.Contexts.{Buildable}
 use Rattle.formula.proofs.Ranges.{ranges-same}
-use Rattle.formula.proofs.Numbered.{Found, found, line-fits, written}
-use Rattle.formula.proofs.Ready.{buildable}
+use Rattle.formula.proofs.NumberedFormulas.{Found, found, line-fits, written}
+use Rattle.formula.proofs.Readiness.{buildable}
 use Rattle.formula.proofs.formulas.outline.Statement.{statement}
 use Rattle.formula.proofs.formulas.outline.Tie as tie
 
@@ -35,8 +35,8 @@ which c = let a = c .args in found (a .q) (a .asked) (a .i) (built c) (c .pre .3
 line-at-requires : tie.Need-line-at-requires
 line-at-requires c κs = which (c .before) .line
 
-deed-of-requires : tie.Need-deed-of-requires
-deed-of-requires c κs = (built (c .before .before), which (c .before .before) .row)
+context-of-requires : tie.Need-context-of-requires
+context-of-requires c κs = (built (c .before .before), which (c .before .before) .row)
 
 line-of-requires : tie.Need-line-of-requires
 line-of-requires c κs =
@@ -44,7 +44,7 @@ line-of-requires c κs =
     let a = at .args in
     let l = c .before .before .before .before .before .line-at in (
       at .pre .0,
-      c .before .before .before .before .deed-of .ensures .legible,
+      c .before .before .before .before .context-of .ensures .legible,
       record { is = refl; some = l .ensures .some; few = l .ensures .few; long = l .ensures .long },
       subst Fits (sym (l .ensures .is)) (line-fits (a .q .change .verb) (eqb (a .asked) 1) (a .i) (which at .line)),
     )
@@ -58,7 +58,7 @@ returns c =
     let a = at .args in
     let Q = questionOf (a .q) in
     let l = c .before .before .before .before .before .before .before .before .line-at in
-    let d = c .before .before .before .before .before .before .before .deed-of in
+    let d = c .before .before .before .before .before .before .before .context-of in
     let e = c .before .before .line-of in (
       written (a .q) _ (l .result) (d .result) (a .q .change .verb) (eqb (a .asked) 1) (a .i) (F.formulas Q (a .asked)) (which at) (l .ensures) (d .ensures) refl (e .ensures .0 Q (d .ensures .under))
           (subst (Spans (c .vertices .result)) (ranges-same (a .q) (whole at) (l .result .pairs)) (c .vertices .ensures)),
@@ -68,4 +68,4 @@ returns c =
 pub outline-spec : {M : Type 1} → statement M
 outline-spec =
     tie.close
-    (tie.spec line-at-requires deed-of-requires line-of-requires vertices-requires returns)
+    (tie.spec line-at-requires context-of-requires line-of-requires vertices-requires returns)

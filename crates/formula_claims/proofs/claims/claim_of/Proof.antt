@@ -6,8 +6,8 @@ use Rattle.page_formulas.specs.Formulas.{differsOver}
 use Rattle.page_formulas.specs.Parts.{conditionProgram}
 use Rattle.page_formulas.specs.Program.{falseI}
 use Rattle.program.proofs.Weights.{said}
-use Rattle.sights.specs.Seen.{sightOf, modeIn, visibleOf, Has, Usable}
-use Rattle.pieces.specs.Partway.{Ready}
+use Rattle.sights.specs.Sights.{sightOf, modeIn, visibleOf, Has, Usable}
+use Rattle.pieces.specs.Pieces.{Compilable}
 use Rattle.formula_lines.specs.Lines.{claimOf}
 use Rattle.formula_claims.proofs.Views.{view-usable, listed-is, relisted-is, chosen-is, differs-is}
 use borrow.Author.Needs.{needs}
@@ -25,7 +25,7 @@ condition-requires c κs =
     let at = c .before .before .before .before .before .before .before .before .before .before in
     let d = at .args .d in
     let e = sym (c .before .before .before .before .view .ensures) in
-    (rw (ap claimOf (c .before .before .before .before .before .enum-told .given .1)) at (at .pre .0), subst Usable e (view-usable d (at .pre .1) (d .pairs && at .args .second) false), subst (λ v. Ready (Has v) (d .listed)) e (at .pre .1 .listed))
+    (rw (ap claimOf (c .before .before .before .before .before .enum-told .given .1)) at (at .pre .0), subst Usable e (view-usable d (at .pre .1) (d .pairs && at .args .second) false), subst (λ v. Compilable (Has v) (d .listed)) e (at .pre .1 .listed))
 
 enum-told-2 : tie.Need-enum-told-2
 enum-told-2 c = search needs
@@ -38,7 +38,7 @@ condition-requires-2 c κs =
     let at = c .before .before .before .before .before .before .before .before .before .before in
     let d = at .args .d in
     let e = sym (c .before .before .before .before .view2 .ensures) in
-    (rw (ap claimOf (c .before .before .before .before .before .enum-told2 .given .1)) at (at .pre .0), subst Usable e (view-usable d (at .pre .1) (d .pairs && at .args .second) true), subst (λ v. Ready (Has v) (d .listed)) e (at .pre .1 .listed))
+    (rw (ap claimOf (c .before .before .before .before .before .enum-told2 .given .1)) at (at .pre .0), subst Usable e (view-usable d (at .pre .1) (d .pairs && at .args .second) true), subst (λ v. Compilable (Has v) (d .listed)) e (at .pre .1 .listed))
 
 enum-told-3 : tie.Need-enum-told-3
 enum-told-3 c = search needs
@@ -51,7 +51,7 @@ condition-requires-3 c κs =
     let at = c .before .before .before .before .before .before .before .before .before .before in
     let d = at .args .d in
     let e = sym (c .before .before .before .before .view3 .ensures) in
-    (rw (ap claimOf (c .before .before .before .before .before .enum-told3 .given .1)) at (at .pre .0), subst Usable e (view-usable d (at .pre .1) (d .pairs && at .args .second) false), subst (λ v. Ready (Has v) (d .chosen)) e (at .pre .1 .chosen))
+    (rw (ap claimOf (c .before .before .before .before .before .enum-told3 .given .1)) at (at .pre .0), subst Usable e (view-usable d (at .pre .1) (d .pairs && at .args .second) false), subst (λ v. Compilable (Has v) (d .chosen)) e (at .pre .1 .chosen))
 
 enum-told-4 : tie.Need-enum-told-4
 enum-told-4 c = search needs

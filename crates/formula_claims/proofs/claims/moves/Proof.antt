@@ -5,8 +5,8 @@ use Rattle.question.specs.Held.{conditionOf}
 use Rattle.page_formulas.specs.Formulas.{boundedAll}
 use Rattle.page_formulas.specs.Parts.{conditionProgram}
 use Rattle.program.proofs.Weights.{said, more, room-less, room-left}
-use Rattle.sights.specs.Seen.{sightOf, rowOf, modesOf, Has, Usable}
-use Rattle.pieces.specs.Partway.{Ready, tableFrom}
+use Rattle.sights.specs.Sights.{sightOf, rowOf, modesOf, Has, Usable}
+use Rattle.pieces.specs.Pieces.{Compilable, tableFrom}
 use Rattle.formula_claims.proofs.Views.{view-usable, chosen-is, tests-are}
 use borrow.Author.Needs.{needs}
 use Rattle.formula_claims.proofs.claims.moves.Statement.{statement}
@@ -20,7 +20,7 @@ condition-requires c κs =
     let at = c .before .before .before .before .before .before .before .before in
     let d = at .args .d in
     let e = sym (c .before .before .before .before .view .ensures) in
-    (room-less (at .pre .0) (omega arith) (omega arith), subst Usable e (view-usable d (at .pre .1) (d .pairs && at .args .second) false), subst (λ v. Ready (Has v) (d .chosen)) e (at .pre .1 .chosen))
+    (room-less (at .pre .0) (omega arith) (omega arith), subst Usable e (view-usable d (at .pre .1) (d .pairs && at .args .second) false), subst (λ v. Compilable (Has v) (d .chosen)) e (at .pre .1 .chosen))
 
 view-requires-2 : tie.Need-view-requires-2
 view-requires-2 c κs = search needs

@@ -4,8 +4,8 @@ use native.Mathlib.Omega.{arith}
 use Rattle.question.specs.Held.{conditionOf}
 use Rattle.page_formulas.specs.Parts.{conditionProgram}
 use Rattle.program.proofs.Weights.{said, more, within, room-less, room-left}
-use Rattle.sights.specs.Seen.{sightOf, Has, Usable}
-use Rattle.pieces.specs.Partway.{Ready}
+use Rattle.sights.specs.Sights.{sightOf, Has, Usable}
+use Rattle.pieces.specs.Pieces.{Compilable}
 use Rattle.formula_claims.proofs.Views.{view-usable, relisted-is}
 use borrow.Author.Needs.{needs}
 use Rattle.formula_claims.proofs.claims.stays.Statement.{statement}
@@ -29,7 +29,7 @@ condition-requires c κs =
     let d = at .args .d in
     let l = at .pre .1 in
     let e = sym (c .before .before .before .before .view .ensures) in
-    (room-left _ _ (room-less (at .pre .0) (omega arith) (omega arith)) (more (c .before .before .before .before .before .before .before .before .before .before .moves .ensures (l .question) (l .under)) (c .before .before .before .before .before .emit .ensures)), subst Usable e (view-usable d l (d .pairs && at .args .second) true), subst (λ v. Ready (Has v) (d .listed)) e (l .listed))
+    (room-left _ _ (room-less (at .pre .0) (omega arith) (omega arith)) (more (c .before .before .before .before .before .before .before .before .before .before .moves .ensures (l .question) (l .under)) (c .before .before .before .before .before .emit .ensures)), subst Usable e (view-usable d l (d .pairs && at .args .second) true), subst (λ v. Compilable (Has v) (d .listed)) e (l .listed))
 
 emit-requires-2 : tie.Need-emit-requires-2
 emit-requires-2 c κs =

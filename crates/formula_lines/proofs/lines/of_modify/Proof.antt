@@ -1,10 +1,10 @@
-use mathlib.Core.Path.{_≡_, refl}
+use mathlib.Core.Path.{refl}
 use mathlib.Core.Bool.{true, false}
 use native.Mathlib.Omega.{arith}
 use lib.Dec.{eqb}
 use borrow.Author.Tests.{eq-eqb, ne-eqb}
 use Rattle.question.specs.declared.types.Verb.the-variants.{Modify}
-use Rattle.formula_lines.proofs.Tabled.{tabled}
+use Rattle.formula_lines.proofs.TableLines.{tabled}
 use Rattle.formula_lines.proofs.lines.of_modify.Statement.{statement}
 use Rattle.formula_lines.proofs.lines.of_modify.Tie as tie
 

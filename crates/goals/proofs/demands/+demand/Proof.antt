@@ -11,16 +11,16 @@ use Rattle.program_tree.specs.Nodes.{treeOf, cell, kindAt, sizeAt, firstAt, Pla
 use Rattle.program_tree.proofs.operands.edge_of.Reads as edge-of-reads
 use Rattle.program_tree.proofs.operands.first_of.Reads as first-of-reads
 use Rattle.program_tree.proofs.operands.kind_of.Reads as kind-of-reads
-use Rattle.goals.specs.Closed.{Enters}
+use Rattle.goals.specs.Closures.{Enters}
 use Rattle.goals.specs.Goals.{goal, goalOf, stackOf, splitting, Leads, Takes}
-use Rattle.goals.proofs.Tightens.{held-most}
+use Rattle.goals.proofs.Tightening.{held-most}
 use Rattle.goals.proofs.Stacks.{put, height, goal-coded}
-use Rattle.goals.proofs.Turns.{demand-place, demand-constant, demand-not, demand-waits, first-closed, demand-both}
+use Rattle.goals.proofs.AskedInstructions.{demand-place, demand-constant, demand-not, demand-waits, first-closed, demand-both}
 use Rattle.goals.proofs.demands.fails.Reads as fails-reads
 use Rattle.goals.proofs.demands.splits.Reads as splits-reads
 use Rattle.goals.proofs.facts.enter_place.Reads as enter-place-reads
 use Rattle.goals.proofs.goals.goal.Reads as goal-reads
-use Prim.Native.Nat.{ℕ, suc, _+_, _-_, _<_}
+use Prim.Native.Nat.{ℕ, suc, _+_, _<_}
 use borrow.Fn.Kinds.{In}
 use borrow.Fn.PlainCycle.{Measures, is, falls, and}
 use Rattle.goals.proofs.demands.demand.Reads as demand

@@ -1,4 +1,4 @@
-use Rattle.goals.proofs.Turns.{fails-other}
+use Rattle.goals.proofs.AskedInstructions.{fails-other}
 use borrow.Author.Needs.{needs}
 use Rattle.goals.proofs.demands.fails.Statement.{statement}
 use Rattle.goals.proofs.demands.fails.Tie as tie

@@ -1,4 +1,4 @@
-use Rattle.goals.proofs.Turns.{splits-other}
+use Rattle.goals.proofs.AskedInstructions.{splits-other}
 use borrow.Author.Needs.{needs}
 use Rattle.goals.proofs.demands.splits.Statement.{statement}
 use Rattle.goals.proofs.demands.splits.Tie as tie

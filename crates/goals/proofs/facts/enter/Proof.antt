@@ -11,9 +11,9 @@ use mir.Facts.{toZ-ofZ}
 use Rattle.page_meaning.specs.Limits.{mostVertices}
 use Rattle.page_walks.specs.Grid.{row, weight, farN}
 use Rattle.page_walks.specs.Sizes.{Bounded, AllWithin, tabled}
-use Rattle.page_walks.specs.Near.{relax, Triangle}
+use Rattle.page_walks.specs.Nearness.{relax, Triangle}
 use Rattle.page_walks.proofs.Rows.{read}
-use Rattle.goals.proofs.Tightens.{closer-tabled, sum-fits, tight-within, below-zero, from-zero}
+use Rattle.goals.proofs.Tightening.{closer-tabled, sum-fits, tight-within, below-zero, from-zero}
 use Rattle.goals.proofs.facts.enter.Statement.{statement}
 use Rattle.goals.proofs.facts.enter.Tie as tie
 

@@ -6,7 +6,7 @@ use mir.Facts.{toZ-ofZ}
 use Rattle.page_sheets.specs.Facts.{taken}
 use Rattle.grid.specs.Edges.{Fact}
 use Rattle.program_tree.specs.Nodes.{placeOf}
-use Rattle.goals.proofs.Tightens.{enters-as}
+use Rattle.goals.proofs.Tightening.{enters-as}
 use borrow.Author.Needs.{needs}
 use Rattle.goals.proofs.facts.enter_place.Statement.{statement}
 use Rattle.goals.proofs.facts.enter_place.Tie as tie

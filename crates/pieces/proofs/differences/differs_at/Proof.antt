@@ -4,7 +4,7 @@ use native.Mathlib.Omega.{arith}
 use Rattle.page_meaning.specs.Claims.{kept}
 use Rattle.page_meaning.specs.Condition.{unequal}
 use Rattle.page_formulas.specs.Program.{orI}
-use Rattle.page_formulas.specs.Compile.{comparison}
+use Rattle.page_formulas.specs.Compilation.{comparison}
 use Rattle.program.proofs.Weights.{said, more, room-less, room-left}
 use Rattle.sights.proofs.Sightings.{stands-near}
 use Rattle.pieces.proofs.Pieces.{builds-none}

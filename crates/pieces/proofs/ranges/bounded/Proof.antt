@@ -6,7 +6,7 @@ use mir.Val.{SFits}
 use mir.Facts.{toZ-ofZ}
 use Rattle.page_meaning.specs.Condition.{atMost, atLeast}
 use Rattle.page_formulas.specs.Program.{andI}
-use Rattle.page_formulas.specs.Compile.{comparison, constantTerm}
+use Rattle.page_formulas.specs.Compilation.{comparison, constantTerm}
 use Rattle.program.specs.Built.{termOf}
 use Rattle.sights.proofs.Sightings.{stands-near}
 use Rattle.program.proofs.Weights.{said, more, room-less, room-left}

@@ -2,7 +2,7 @@ use denote.Ref.{now}
 use mathlib.Core.Path.{sym, ap, _∙_}
 use Rattle.page_questions.specs.Reader.{fromChange}
 use Rattle.question.specs.Held.{questionOf}
-use Rattle.changes.specs.Deeds.{deedBy}
+use Rattle.changes.specs.Changes.{changeMeant}
 use Rattle.question.specs.declared.types.Answer.{Answer}
 use Rattle.page_questions.proofs.Steps.{then-good, on-bad}
 use Rattle.reader.proofs.Chain.{reads-as, change-field}
@@ -33,7 +33,7 @@ returns c =
     let r = d .change-at .result in
     let a = d .before .before in
     reads-as
-    (then-good _ (sym (ap (λ (x : Answer). deedBy x (a .args .shape .width) (r .change) (r .next)) (t .enum-told .given .1)) ∙ d .change-at .ensures .meaning ∙ change-field (a .args .shape) (a .pre .0) (a .args .columns) (now (a .args .s)) (a .args .kind) (a .args .p)))
+    (then-good _ (sym (ap (λ (x : Answer). changeMeant x (a .args .shape .width) (r .change) (r .next)) (t .enum-told .given .1)) ∙ d .change-at .ensures .meaning ∙ change-field (a .args .shape) (a .pre .0) (a .args .columns) (now (a .args .s)) (a .args .kind) (a .args .p)))
     (c .ended .ensures)
 
 returns-2 : tie.Need-returns-2
@@ -44,7 +44,7 @@ returns-2 c =
     let r = d .change-at .result in
     let a = d .before .before in
     reads-as
-    (on-bad _ (sym (ap (λ (x : Answer). deedBy x (a .args .shape .width) (r .change) (r .next)) (t .answer .given .1)) ∙ d .change-at .ensures .meaning ∙ change-field (a .args .shape) (a .pre .0) (a .args .columns) (now (a .args .s)) (a .args .kind) (a .args .p)))
+    (on-bad _ (sym (ap (λ (x : Answer). changeMeant x (a .args .shape .width) (r .change) (r .next)) (t .answer .given .1)) ∙ d .change-at .ensures .meaning ∙ change-field (a .args .shape) (a .pre .0) (a .args .columns) (now (a .args .s)) (a .args .kind) (a .args .p)))
     (c .refusal .ensures)
 
 pub from-change-spec : {M : Type 1} → statement M

@@ -1,7 +1,7 @@
 use mathlib.Core.Path.{sym, ap, _∙_}
 use denote.Ref.{now}
 use Rattle.page_questions.specs.Reader.{fromCondition, conditionAt}
-use Rattle.tokens.specs.Words.{clauseBy}
+use Rattle.tokens.specs.Tokens.{conditionMeant}
 use Rattle.question.specs.declared.types.Answer.{Answer}
 use Rattle.page_questions.proofs.Steps.{then-good, on-bad}
 use Rattle.reader.proofs.Chain.{reads-as}
@@ -32,7 +32,7 @@ returns c =
     let r = d .condition-at .result in
     let a = d .before .before in
     reads-as
-    (then-good _ (sym (ap (λ (x : Answer). clauseBy x (r .condition) (r .next)) (t .enum-told .given .1)) ∙ d .condition-at .ensures .meaning ∙ ap (λ k. conditionAt (now (a .args .s)) 0 k (a .args .p)) (a .pre .0 .total)))
+    (then-good _ (sym (ap (λ (x : Answer). conditionMeant x (r .condition) (r .next)) (t .enum-told .given .1)) ∙ d .condition-at .ensures .meaning ∙ ap (λ k. conditionAt (now (a .args .s)) 0 k (a .args .p)) (a .pre .0 .total)))
     (c .from-change .ensures)
 
 returns-2 : tie.Need-returns-2
@@ -43,7 +43,7 @@ returns-2 c =
     let r = d .condition-at .result in
     let a = d .before .before in
     reads-as
-    (on-bad _ (sym (ap (λ (x : Answer). clauseBy x (r .condition) (r .next)) (t .answer .given .1)) ∙ d .condition-at .ensures .meaning ∙ ap (λ k. conditionAt (now (a .args .s)) 0 k (a .args .p)) (a .pre .0 .total)))
+    (on-bad _ (sym (ap (λ (x : Answer). conditionMeant x (r .condition) (r .next)) (t .answer .given .1)) ∙ d .condition-at .ensures .meaning ∙ ap (λ k. conditionAt (now (a .args .s)) 0 k (a .args .p)) (a .pre .0 .total)))
     (c .refusal .ensures)
 
 pub from-condition-spec : {M : Type 1} → statement M

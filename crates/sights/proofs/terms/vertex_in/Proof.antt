@@ -1,5 +1,5 @@
 use mathlib.Core.Path.{ap, _∙_}
-use Rattle.sights.specs.Seen.{vertexOf}
+use Rattle.sights.specs.Sights.{vertexOf}
 use Rattle.sights.proofs.Sightings.{flag-at}
 use borrow.Author.Needs.{needs}
 use Rattle.sights.proofs.terms.vertex_in.Statement.{statement}

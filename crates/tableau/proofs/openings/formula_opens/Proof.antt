@@ -5,9 +5,9 @@ use denote.Ref.{now}
 use Rattle.page_meaning.specs.Limits.{mostVertices}
 use Rattle.page_walks.proofs.Rows.{sized}
 use Rattle.page_formulas.specs.Formulas as written
-use Rattle.page_formulas.specs.Proper.{Proper}
+use Rattle.page_formulas.specs.ProperFormulas.{Proper}
 use Rattle.program.specs.Compiled.{Compiled, formulaOf}
-use Rattle.program.specs.Held.{Formula}
+use Rattle.program.specs.Formulas.{Formula}
 use Rattle.program.proofs.Ranges.{coded-of, ranging-of, ranged}
 use Rattle.program_tree.specs.Nodes.{treeOf, Tells}
 use Rattle.program_tree.proofs.Trees.{plantable, tells}

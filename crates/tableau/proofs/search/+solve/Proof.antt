@@ -1,25 +1,24 @@
 use native.Mathlib.Omega.{arith}
-use mathlib.Core.Path.{_≡_, sym, subst}
-use mathlib.Core.Bool.{Bool, true, false, not}
+use mathlib.Core.Path.{sym, subst}
+use mathlib.Core.Bool.{false, not}
 use mathlib.Core.List.{_∷_}
 use denote.Ref.{now}
 use borrow.Author.Needs.{needs}
-use Rattle.page_formulas.specs.Program.{Values}
-use Rattle.program_tree.specs.Nodes.{treeOf, cell, Describes}
+use Rattle.program_tree.specs.Nodes.{treeOf, cell}
 use Rattle.goals.specs.Goals.{goal, atOf, goalOf, stackOf, total, Leads, Opens, Solves}
 use Rattle.goals.proofs.Stacks.{stack-none}
-use Rattle.goals.proofs.Turns.{takes-then, smaller}
+use Rattle.goals.proofs.AskedInstructions.{takes-then, smaller}
 use Rattle.goals.proofs.demands.demand.Reads as demand-reads
 use Rattle.goals.proofs.goals.goal_at.Reads as goal-at-reads
 use Rattle.goals.proofs.goals.goal_want.Reads as goal-want-reads
 use Rattle.tableau_choice.specs.Choices.{Operands}
-use Rattle.tableau.proofs.Picks.{in-tree, few, picked}
+use Rattle.tableau.proofs.Choices.{in-tree, few, picked}
 use Rattle.tableau.proofs.Splits.{none, on, ended, parts, rest, one-open, denied-none, denied-on}
 use Rattle.tableau_choice.proofs.choice.halves.Reads as halves-reads
 use Rattle.tableau_choice.proofs.choice.take.Reads as take-reads
 use Rattle.tableau.proofs.search.advance.Reads as advance-reads
 use Rattle.tableau.proofs.search.shut.Reads as shut-reads
-use Prim.Native.Nat.{ℕ, suc, _+_, _-_, _≤_, _<_}
+use Prim.Native.Nat.{ℕ, _+_, _-_, _<_}
 use borrow.Fn.Kinds.{In}
 use borrow.Fn.PlainCycle.{Measures, is, falls, and}
 use Rattle.tableau.proofs.search.solve.Reads as solve

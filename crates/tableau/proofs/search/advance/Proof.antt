@@ -3,7 +3,7 @@ use denote.Ref.{now}
 use borrow.Author.Needs.{needs}
 use Rattle.program_tree.specs.Nodes.{treeOf}
 use Rattle.goals.specs.Goals.{goal, stackOf, Leads}
-use Rattle.goals.proofs.Turns.{takes-then}
+use Rattle.goals.proofs.AskedInstructions.{takes-then}
 use Rattle.tableau.proofs.Splits.{on}
 use Rattle.tableau.proofs.search.advance.Statement.{statement}
 use Rattle.tableau.proofs.search.advance.Tie as tie

@@ -6,8 +6,8 @@ use denote.Ref.{now}
 use Rattle.page_formulas.specs.Costs.{mostInstructions}
 use Rattle.program_tree.specs.Nodes.{treeOf}
 use Rattle.goals.specs.Goals.{stackOf, total, Leads, Takes}
-use Rattle.goals.proofs.Turns.{leads-self, takes-then}
-use Rattle.tableau_sieve.proofs.Sifts.{turn-less}
+use Rattle.goals.proofs.AskedInstructions.{leads-self, takes-then}
+use Rattle.tableau_sieve.proofs.SiftedGoals.{turn-less}
 use Rattle.tableau_sieve.proofs.sieve.settle.Statement.{statement}
 use Rattle.tableau_sieve.proofs.sieve.settle.Tie as tie
 

@@ -10,7 +10,7 @@ use Rattle.page_formulas.specs.Costs.{mostInstructions}
 use Rattle.program_tree.specs.Nodes.{treeOf}
 use Rattle.goals.specs.Goals.{goalOf, stackOf, Sifts}
 use Rattle.goals.proofs.Stacks.{stack-top, stack-none, height}
-use Rattle.tableau_sieve.proofs.Sifts.{Sifting, sifting-start, sifting-asks, sifting-closed, sifting-more, sifting-end, sees-on}
+use Rattle.tableau_sieve.proofs.SiftedGoals.{Sifting, sifting-start, sifting-asks, sifting-closed, sifting-more, sifting-end, sees-on}
 use Rattle.tableau_sieve.proofs.sieve.sift.Statement.{statement}
 use Rattle.tableau_sieve.proofs.sieve.sift.Tie as tie
 

@@ -9,9 +9,9 @@ use borrow.Author.Needs.{needs}
 use Rattle.program_tree.specs.Nodes.{treeOf, sizeAt, firstAt}
 use Rattle.goals.specs.Goals.{atOf, goalOf, stackOf, Sifts}
 use Rattle.goals.proofs.Stacks.{put, height}
-use Rattle.goals.proofs.Turns.{takes-as}
+use Rattle.goals.proofs.AskedInstructions.{takes-as}
 use Rattle.tableau_sieve.specs.declared.types.Sifted.{Sifted}
-use Rattle.tableau_sieve.proofs.Sifts.{less, rest, known, known-as, sift-done, sift-dead, sift-first, sift-second, sift-open}
+use Rattle.tableau_sieve.proofs.SiftedGoals.{less, rest, known, known-as, sift-done, sift-dead, sift-first, sift-second, sift-open}
 use Rattle.tableau_sieve.proofs.sieve.sift_one.Statement.{statement}
 use Rattle.tableau_sieve.proofs.sieve.sift_one.Tie as tie
 

@@ -4,7 +4,7 @@ use Prim.Native.Nat.{_-_}
 use Rattle.page_meaning.specs.Limits.{mostColumns}
 use Rattle.page_questions.specs.Reader.{many, columnAt}
 use Rattle.question.specs.Held.{columnOf}
-use Rattle.tables.specs.Shapes.{pillarOf}
+use Rattle.tables.specs.Shapes.{columnMeant}
 use Rattle.page_questions.proofs.Loops.{Going, going-start, going-on, going-bad, going-end}
 use borrow.Author.Needs.{needs}
 use Rattle.tables.proofs.columns.columns_at.Statement.{statement}
@@ -23,8 +23,8 @@ loop-holds c = going-start _ _ mostColumns _ _ _ refl
 column-at-requires : tie.Need-column-at-requires Inv-loop μ-loop
 column-at-requires c κs = search needs
 
-enum-known-pillar : tie.Need-enum-known-pillar Inv-loop μ-loop
-enum-known-pillar c = search needs
+enum-known-read : tie.Need-enum-known-read Inv-loop μ-loop
+enum-known-read c = search needs
 
 mul-columns : tie.Need-mul-columns Inv-loop μ-loop
 mul-columns c = search needs
@@ -43,10 +43,10 @@ loop-again c =
     let w = c .before in
     let l = w .before .before .before .before in
     going-on _ _ _ _ _ _ _ _ (l .loop .inv) (w .before .before .before .loop-test .taken) _ _ (l .before .before .pre)
-    (sym (ap pillarOf (w .pillar .given .1)) ∙ w .before .before .column-at .ensures)
+    (sym (ap columnMeant (w .read .given .1)) ∙ w .before .before .column-at .ensures)
 
-enum-known-pillar-2 : tie.Need-enum-known-pillar-2 Inv-loop μ-loop
-enum-known-pillar-2 c = search needs
+enum-known-read-2 : tie.Need-enum-known-read-2 Inv-loop μ-loop
+enum-known-read-2 c = search needs
 
 returns : tie.Need-returns Inv-loop μ-loop
 returns c =
@@ -55,7 +55,7 @@ returns c =
     record {
       meaning =
           going-bad _ _ _ _ _ _ _ _ (l .loop .inv) (w .before .before .before .loop-test .taken) _ _
-          (sym (ap pillarOf (w .pillar2 .given .1)) ∙ w .before .before .column-at .ensures);
+          (sym (ap columnMeant (w .read2 .given .1)) ∙ w .before .before .column-at .ensures);
       sized = l .loop .inv .sized;
     }
 
@@ -70,12 +70,12 @@ columns-at-spec =
     μ-loop
     loop-holds
     column-at-requires
-    enum-known-pillar
+    enum-known-read
     mul-columns
     array-set-from-columns
     add-i
     loop-less
     loop-again
-    enum-known-pillar-2
+    enum-known-read-2
     returns
     returns-2)

@@ -5,7 +5,7 @@ use mathlib.Core.Bool.{false}
 use lib.ListN.{getD}
 use borrow.Author.Count.{below-more}
 use Rattle.question.proofs.RowRun.{noColumn}
-use Rattle.tables.proofs.Visible.{some-visible, none-visible}
+use Rattle.tables.proofs.VisibleColumns.{some-visible, none-visible}
 use borrow.Author.Needs.{needs}
 use Rattle.tables.proofs.columns.some_visible.Statement.{statement}
 use Rattle.tables.proofs.columns.some_visible.Tie as tie

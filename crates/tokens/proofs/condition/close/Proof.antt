@@ -14,16 +14,16 @@ closed-requires c κs =
 enum-known-answer : tie.Need-enum-known-answer
 enum-known-answer c = search needs
 
-no-clause-requires : tie.Need-no-clause-requires
-no-clause-requires c κs = search needs
+no-condition-requires : tie.Need-no-condition-requires
+no-condition-requires c κs = search needs
 
 returns : tie.Need-returns
 returns c = rw (c .before .enum-told .given .1) (c .closed .ensures)
 
 returns-2 : tie.Need-returns-2
-returns-2 c = rw (c .before .before .answer .given .1) (c .no-clause .ensures)
+returns-2 c = rw (c .before .before .answer .given .1) (c .no-condition .ensures)
 
 pub close-spec : {M : Type 1} → statement M
 close-spec =
     tie.close
-    (tie.spec enum-told closed-requires enum-known-answer no-clause-requires returns returns-2)
+    (tie.spec enum-told closed-requires enum-known-answer no-condition-requires returns returns-2)

@@ -32,8 +32,8 @@ close-requires c κs =
 enum-known-b-2 : tie.Need-enum-known-b-2
 enum-known-b-2 c = search needs
 
-no-clause-requires : tie.Need-no-clause-requires
-no-clause-requires c κs = search needs
+no-condition-requires : tie.Need-no-condition-requires
+no-condition-requires c κs = search needs
 
 returns : tie.Need-returns
 unfolding conditionAt
@@ -52,8 +52,8 @@ unfolding conditionAt
 returns-2 c =
     let b = c .before .before in
     record {
-      meaning = c .no-clause .ensures .meaning ∙ on-bad _ (sym (ap byteOf (b .b2 .given .1)) ∙ b .before .before .byte-at .ensures);
-      fewTokens = c .no-clause .ensures .fewTokens;
+      meaning = c .no-condition .ensures .meaning ∙ on-bad _ (sym (ap byteOf (b .b2 .given .1)) ∙ b .before .before .byte-at .ensures);
+      fewTokens = c .no-condition .ensures .fewTokens;
     }
 
 pub condition-at-spec : {M : Type 1} → statement M
@@ -66,6 +66,6 @@ condition-at-spec =
     tokens-at-requires
     close-requires
     enum-known-b-2
-    no-clause-requires
+    no-condition-requires
     returns
     returns-2)

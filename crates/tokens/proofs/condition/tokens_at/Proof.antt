@@ -8,7 +8,7 @@ use borrow.Author.Needs.{needs}
 use mathlib.Core.Path.{_≡_, sym, ap, _∙_, refl}
 use Prim.Native.Nat.{_-_}
 use native.Mathlib.Omega.{arith}
-use Rattle.tokens.specs.Words.{wordOf}
+use Rattle.tokens.specs.Tokens.{tokenMeant}
 use Rattle.tokens.proofs.TokenRun.{TokenRun, this-token, run-on}
 use Rattle.tokens.proofs.condition.tokens_at.Statement.{statement}
 use Rattle.tokens.proofs.condition.tokens_at.Tie as tie
@@ -52,7 +52,7 @@ loop-again c =
     let l = w .before .before .before .before in
     rw (c .before .compared-after .ensures, c .height-after .ensures)
     (run-on _ _ _ _ _ _ _ _ _ _ (l .loop .inv) _ _ (l .before .before .pre) (w .before .before .before .loop-test .taken)
-    (sym (ap wordOf (w .w .given .1)) ∙ w .before .before .token-at .ensures))
+    (sym (ap tokenMeant (w .w .given .1)) ∙ w .before .before .token-at .ensures))
 
 enum-known-w-2 : tie.Need-enum-known-w-2 Inv-loop μ-loop
 enum-known-w-2 c = search needs
@@ -64,7 +64,7 @@ returns c =
     record {
       meaning =
           going-bad _ _ _ _ _ _ _ _ (l .loop .inv .going) (w .before .before .before .loop-test .taken) _ _
-          (sym (ap wordOf (w .w2 .given .1)) ∙ w .before .before .token-at .ensures ∙ this-token _ _ _ _ _ _ _ _ _ _ (l .loop .inv));
+          (sym (ap tokenMeant (w .w2 .given .1)) ∙ w .before .before .token-at .ensures ∙ this-token _ _ _ _ _ _ _ _ _ _ (l .loop .inv));
       stand = search needs;
       sized = l .loop .inv .going .sized;
     }

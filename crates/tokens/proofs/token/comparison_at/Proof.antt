@@ -2,7 +2,7 @@ use borrow.Author.Needs.{needs}
 use mathlib.Core.Path.{sym, ap, _∙_}
 use Rattle.page_questions.specs.Reader.{comparisonAt}
 use Rattle.fields.specs.Bytes.{byteOf}
-use Rattle.tokens.specs.Words.{sidesAt}
+use Rattle.tokens.specs.Tokens.{sidesAt}
 use Rattle.page_questions.proofs.Steps.{on-good, on-bad}
 use Rattle.tokens.proofs.token.comparison_at.Statement.{statement}
 use Rattle.tokens.proofs.token.comparison_at.Tie as tie

@@ -2,7 +2,7 @@ use borrow.Author.Needs.{needs}
 use mathlib.Core.Path.{sym, ap, _∙_}
 use mir.Facts.{toZ-ofZ}
 use Rattle.fields.specs.Bytes.{byteOf, numberOf}
-use Rattle.tokens.specs.Words.{sidesAt}
+use Rattle.tokens.specs.Tokens.{sidesAt}
 use Rattle.page_questions.proofs.Steps.{on-good, on-bad}
 use Rattle.tokens.proofs.token.sides_at.Statement.{statement}
 use Rattle.tokens.proofs.token.sides_at.Tie as tie

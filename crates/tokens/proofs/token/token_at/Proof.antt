@@ -1,6 +1,6 @@
 use mathlib.Core.Path.{sym, ap, _∙_}
 use Rattle.fields.specs.Bytes.{byteOf}
-use Rattle.tokens.specs.Words.{tokenWith}
+use Rattle.tokens.specs.Tokens.{tokenWith}
 use Rattle.page_questions.proofs.Steps.{on-good, on-bad}
 use borrow.Author.Needs.{needs}
 use Rattle.tokens.proofs.token.token_at.Statement.{statement}
@@ -12,8 +12,8 @@ byte-at-requires c κs = search needs
 enum-known-b : tie.Need-enum-known-b
 enum-known-b c = search needs
 
-word-at-requires : tie.Need-word-at-requires
-word-at-requires c κs = search needs
+numbered-at-requires : tie.Need-numbered-at-requires
+numbered-at-requires c κs = search needs
 
 enum-known-b-2 : tie.Need-enum-known-b-2
 enum-known-b-2 c = search needs
@@ -22,7 +22,7 @@ returns : tie.Need-returns
 unfolding tokenWith
 returns c =
     let b = c .before .before in
-    on-good _ (sym (ap byteOf (b .b .given .1)) ∙ b .before .before .byte-at .ensures) (c .word-at .ensures)
+    on-good _ (sym (ap byteOf (b .b .given .1)) ∙ b .before .before .byte-at .ensures) (c .numbered-at .ensures)
 
 returns-2 : tie.Need-returns-2
 unfolding tokenWith
@@ -33,4 +33,4 @@ returns-2 c =
 pub token-at-spec : {M : Type 1} → statement M
 token-at-spec =
     tie.close
-    (tie.spec byte-at-requires enum-known-b word-at-requires enum-known-b-2 returns returns-2)
+    (tie.spec byte-at-requires enum-known-b numbered-at-requires enum-known-b-2 returns returns-2)

@@ -2,20 +2,20 @@
 use borrow.Author.Needs.{needs}
 use native.Mathlib.Omega.{arith}
 use Prim.Native.Nat.{_-_, _≤_, _<_}
-use mathlib.Core.Path.{_≡_, refl, sym, subst}
-use mathlib.Core.Bool.{true, false, true≢false}
+use mathlib.Core.Path.{refl, sym, subst}
+use mathlib.Core.Bool.{true≢false}
 use mathlib.Core.List.{[]}
 use lib.ListN.{length}
 use Rattle.question.specs.Held.{questionOf}
-use Rattle.page_questions.specs.Accepted.{Accepted}
+use Rattle.page_questions.specs.Guarantees.{Accepted}
 use Rattle.page_formulas.specs.Formulas.{formulas}
-use Rattle.page_formulas.specs.Proper.{Proper}
+use Rattle.page_formulas.specs.ProperFormulas.{Proper}
 use Rattle.program.specs.Built.{programOf, Long}
 use Rattle.formula_claims.specs.Claims.{begun}
 use Rattle.formula.specs.Formulas.{formulaAt}
 use Rattle.goals.specs.Goals.{Opens, TrueAt}
-use Rattle.formula.proofs.Fines.{proper-at}
-use Rattle.verdicts.proofs.Finds.{Passed, passed-more, found-first, found-none}
+use Rattle.formula.proofs.ProperFormulas.{proper-at}
+use Rattle.verdicts.proofs.Findings.{Passed, passed-more, found-first, found-none}
 use Rattle.verdicts.proofs.openings.first_open.Statement.{statement}
 use Rattle.verdicts.proofs.openings.first_open.Tie as tie
 

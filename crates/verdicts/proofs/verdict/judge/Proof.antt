@@ -1,6 +1,6 @@
 use Rattle.question.specs.Held.{questionOf}
 use Rattle.page_sheets.specs.Sheet.{findingOf}
-use Rattle.verdicts.proofs.Finds.{judged-no, judged-yes}
+use Rattle.verdicts.proofs.Findings.{judged-no, judged-yes}
 use borrow.Author.Needs.{needs}
 use Rattle.verdicts.proofs.verdict.judge.Statement.{statement}
 use Rattle.verdicts.proofs.verdict.judge.Tie as tie

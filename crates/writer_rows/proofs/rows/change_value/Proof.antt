@@ -3,7 +3,7 @@ use mir.Facts.{toZ-ofZ}
 use mir.Syntax.{w32}
 use mir.Val.{SFits}
 use Rattle.page_sheets.specs.Rows.{orElse}
-use Rattle.inserted.specs.Fixed.{optionOf}
+use Rattle.inserted.specs.FixedValues.{optionOf}
 use borrow.Author.Needs.{needs}
 use Rattle.writer_rows.proofs.rows.change_value.Statement.{statement}
 use Rattle.writer_rows.proofs.rows.change_value.Tie as tie

@@ -18,15 +18,15 @@ use Rattle.page_meaning.specs.Limits.{mostDecisions}
 use mathlib.Core.Bool.{Bool, true, false}
 use Rattle.page_walks.specs.Grid.{weight, tighten}
 use Rattle.page_walks.specs.Sizes.{tabled}
-use Rattle.page_walks.specs.Near.{relax, Triangle}
+use Rattle.page_walks.specs.Nearness.{relax, Triangle}
 use Rattle.truth.specs.Cells.{threeOf}
 use Rattle.program.specs.Lent.{placeAt}
 use Rattle.page_sheets.specs.Facts.{taken}
 use Rattle.grid.specs.Edges.{Fact}
-use Rattle.goals.proofs.Tightens.{tight-within}
-use Rattle.writer_trees.specs.Trees.{Ready, sideBy}
+use Rattle.goals.proofs.Tightening.{tight-within}
+use Rattle.writer_trees.specs.Trees.{Growable, sideBy}
 use Rattle.writer_trees.specs.declared.trees.Half.{Half}
-use Rattle.writer_trees.proofs.Halves.{grows-false, grows-true, grows-end, branch-both, side-cut, side-calm}
+use Rattle.writer_trees.proofs.NodeHalves.{grows-false, grows-true, grows-end, branch-both, side-cut, side-calm}
 use Rattle.writer_trees.proofs.Growths.{fact-bounded, fact-fits, ready-handed, grows-over}
 use Rattle.writer_trees.proofs.trees.branch.Reads as branch
 use Rattle.writer_trees.proofs.trees.branch.Kinds as branch-kinds
@@ -128,7 +128,7 @@ branch-side-requires t c κs =
     let a = s .args in
     let e = c .before .half-at .ensures in
     let m : c .before .half-at .result .node .undecided ≡ a .n .undecided - 1 = ap (λ (z : Half). z .node .undecided) e in
-    (omega (arith, s .pre .0, s .pre .1 .2, m), (s .pre .1 .0, omega (arith, s .pre .1 .1, m), subst (λ (z : Half). Fact (z .node .last) (z .fact .from) (z .fact .to) (z .fact .weight)) (sym e) (true-fact t s), subst (λ (z : Half). Ready (z .node .last) (now (a .left)) (now (a .right)) (now (a .most)) (now (a .g)) (now (a .near))) (sym e) (s .pre .1 .3)))
+    (omega (arith, s .pre .0, s .pre .1 .2, m), (s .pre .1 .0, omega (arith, s .pre .1 .1, m), subst (λ (z : Half). Fact (z .node .last) (z .fact .from) (z .fact .to) (z .fact .weight)) (sym e) (true-fact t s), subst (λ (z : Half). Growable (z .node .last) (now (a .left)) (now (a .right)) (now (a .most)) (now (a .g)) (now (a .near))) (sym e) (s .pre .1 .3)))
 
 branch-negation-requires : (t : ℕ) → branch-lts.Need-negation-requires (branch-calls t) (branch-at t) branch.Post
 branch-negation-requires t c κs = search needs
@@ -142,7 +142,7 @@ branch-side-requires-2 t c κs =
     let a = s .args in
     let e = c .before .half-at2 .ensures in
     let m : c .before .half-at2 .result .node .undecided ≡ a .n .undecided - 1 = ap (λ (z : Half). z .node .undecided) e in
-    (omega (arith, s .pre .0, s .pre .1 .2, m), (s .pre .1 .0, omega (arith, s .pre .1 .1, m), subst (λ (z : Half). Fact (z .node .last) (z .fact .from) (z .fact .to) (z .fact .weight)) (sym e) (subst (Fact (a .n .last) (getD (now (a .left)) (length (now (a .most)) - a .n .undecided) 0) (getD (now (a .right)) (length (now (a .most)) - a .n .undecided) 0)) (sym (no-weight t (c .before .before))) (place-fact t s false)), subst (λ (z : Half). Ready (z .node .last) (now (a .left)) (now (a .right)) (now (a .most)) (now (a .g)) (now (a .near))) (sym e) (s .pre .1 .3)))
+    (omega (arith, s .pre .0, s .pre .1 .2, m), (s .pre .1 .0, omega (arith, s .pre .1 .1, m), subst (λ (z : Half). Fact (z .node .last) (z .fact .from) (z .fact .to) (z .fact .weight)) (sym e) (subst (Fact (a .n .last) (getD (now (a .left)) (length (now (a .most)) - a .n .undecided) 0) (getD (now (a .right)) (length (now (a .most)) - a .n .undecided) 0)) (sym (no-weight t (c .before .before))) (place-fact t s false)), subst (λ (z : Half). Growable (z .node .last) (now (a .left)) (now (a .right)) (now (a .most)) (now (a .g)) (now (a .near))) (sym e) (s .pre .1 .3)))
 
 branch-same-length : (t : ℕ) → branch-lts.Need-same-length (branch-calls t) (branch-at t) branch.Post
 branch-same-length t c = search needs

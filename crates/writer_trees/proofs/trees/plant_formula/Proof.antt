@@ -6,13 +6,13 @@ use lib.ListN.{length, take}
 use Rattle.page_meaning.specs.Limits.{mostVertices}
 use Rattle.page_walks.proofs.Rows.{sized}
 use Rattle.page_formulas.specs.Formulas.{Formula}
-use Rattle.page_formulas.specs.Proper.{Proper}
+use Rattle.page_formulas.specs.ProperFormulas.{Proper}
 use Rattle.program.specs.Lent.{Coded}
-use Rattle.program.specs.Held as compiled
+use Rattle.program.specs.Formulas as compiled
 use Rattle.program.specs.Compiled.{Compiled, formulaOf}
-use Rattle.program.proofs.Lends.{kinds-long, places-long, small-spans, spanned-of}
+use Rattle.program.proofs.Loans.{kinds-long, places-long, small-spans, spanned-of}
 use Rattle.program.proofs.Ranges.{coded-of, ranging-of, ranged}
-use Rattle.writer_trees.proofs.Plants.{Begun, begun-of, root-ready, root-grows}
+use Rattle.writer_trees.proofs.RootTrees.{Begun, begun-of, root-ready, root-grows}
 use borrow.Author.Needs.{needs}
 use Rattle.writer_trees.proofs.trees.plant_formula.Statement.{statement}
 use Rattle.writer_trees.proofs.trees.plant_formula.Tie as tie

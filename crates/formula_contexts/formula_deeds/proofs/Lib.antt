@@ -1,0 +1,2 @@
+pub mod FilledArrays
+pub mod Grounds

@@ -1,0 +1,3 @@
+// What a question's formulas are read under: its list, and its change.
+pub mod contexts;
+pub mod views;

@@ -1,3 +1,0 @@
-// What a question's formulas are read under: its list, and its change.
-pub mod deeds;
-pub mod views;

@@ -1,0 +1,223 @@
+-- The loop's invariant: what the rest makes of the stack is what the whole makes of the empty one.
+use borrow.Author.Needs.{needs}
+use native.Mathlib.Omega.{arith}
+use Prim.Native.Nat.{_-_, _≤_}
+use mathlib.Core.Path.{_≡_, refl, _∙_}
+use mathlib.Core.List.{[]}
+use lib.ListN.{length, getD}
+use denote.Ref.{now}
+use Rattle.page_formulas.specs.Costs.{mostInstructions}
+use Rattle.truth.specs.Cells.{stackOf, threeOf}
+use Rattle.page_formulas.specs.Knowledge.{passes}
+use Rattle.truth.specs.declared.truths.Truth.the-variants.{Fails}
+use Rattle.truth.proofs.Runs.{Rest, rest-place, rest-constant, rest-not, rest-not-empty, rest-join, rest-join-short, rest-known, stack-top}
+use Rattle.truth.proofs.truths.known.Statement.{statement}
+use Rattle.truth.proofs.truths.known.Tie as tie
+
+abbrev Inv-loop : tie.InvT-loop
+Inv-loop kinds truths cells₀ height₀ next₀ i₀ cells height next i =
+    (i ≤ length kinds) × (height ≤ i) × (next ≤ i) × (length cells ≡ mostInstructions) × (Rest kinds truths next i (stackOf cells height) ≡ Rest kinds truths 0 0 [])
+
+abbrev μ-loop : tie.MeasureT-loop
+μ-loop kinds truths cells₀ height₀ next₀ i₀ cells height next i = length kinds - i
+
+loop-holds : tie.Need-loop-holds Inv-loop μ-loop
+loop-holds c = search needs
+
+shared-slice-read-k : tie.Need-shared-slice-read-k Inv-loop μ-loop
+shared-slice-read-k c = search needs
+
+add-i : tie.Need-add-i Inv-loop μ-loop
+add-i c = search needs
+
+pushed-requires : tie.Need-pushed-requires Inv-loop μ-loop
+pushed-requires c κs = search needs
+
+array-set-from-cells : tie.Need-array-set-from-cells Inv-loop μ-loop
+array-set-from-cells c = search needs
+
+add-height : tie.Need-add-height Inv-loop μ-loop
+add-height c = search needs
+
+add-next : tie.Need-add-next Inv-loop μ-loop
+add-next c = search needs
+
+loop-less : tie.Need-loop-less Inv-loop μ-loop
+loop-less c = search needs
+
+loop-again : tie.Need-loop-again Inv-loop μ-loop
+loop-again c =
+    let at = c .before .before .before .before .loop in
+    let args = c .before .before .before .before .before .before .before .args in (
+      search needs,
+      search needs,
+      search needs,
+      search needs,
+      rest-place (args .kinds .now) (args .truths .now) (at .i) (at .next) (c .before .before .before .loop-test .taken) (at .cells) (at .height) (c .pushed .result) (omega arith) (c .before .if1 .taken) (c .pushed .ensures) ∙ at .inv .4,
+    )
+
+pushed-requires-2 : tie.Need-pushed-requires-2 Inv-loop μ-loop
+pushed-requires-2 c κs = search needs
+
+array-set-from-cells-2 : tie.Need-array-set-from-cells-2 Inv-loop μ-loop
+array-set-from-cells-2 c = search needs
+
+add-height-2 : tie.Need-add-height-2 Inv-loop μ-loop
+add-height-2 c = search needs
+
+loop-less-2 : tie.Need-loop-less-2 Inv-loop μ-loop
+loop-less-2 c = search needs
+
+loop-again-2 : tie.Need-loop-again-2 Inv-loop μ-loop
+loop-again-2 c =
+    let at = c .before .before .before .before .before .loop in
+    let args = c .before .before .before .before .before .before .before .before .args in (
+      search needs,
+      search needs,
+      search needs,
+      search needs,
+      rest-constant (args .kinds .now) (args .truths .now) (at .i) (at .next) (c .before .before .before .before .loop-test .taken) (at .cells) (at .height) (c .pushed2 .result) (omega arith) (c .before .if2 .taken) (c .pushed2 .ensures) ∙ at .inv .4,
+    )
+
+array-copy-out-a : tie.Need-array-copy-out-a Inv-loop μ-loop
+array-copy-out-a c = search needs
+
+opposite-requires : tie.Need-opposite-requires Inv-loop μ-loop
+opposite-requires c κs = search needs
+
+array-set-from-cells-3 : tie.Need-array-set-from-cells-3 Inv-loop μ-loop
+array-set-from-cells-3 c = search needs
+
+loop-less-3 : tie.Need-loop-less-3 Inv-loop μ-loop
+loop-less-3 c = search needs
+
+loop-again-3 : tie.Need-loop-again-3 Inv-loop μ-loop
+loop-again-3 c =
+    let at = c .before .before .before .before .before .before .before .before .loop in
+    let args = c .before .before .before .before .before .before .before .before .before .before .before .args in (
+      search needs,
+      search needs,
+      search needs,
+      search needs,
+      rest-not (args .kinds .now) (args .truths .now) (at .i) (at .next) (c .before .before .before .before .before .before .before .loop-test .taken) (at .cells) (at .height) (c .opposite .result) (c .before .before .if4 .taken) (omega arith) (c .before .before .before .if3 .taken) (c .opposite .ensures) ∙ at .inv .4,
+    )
+
+loop-less-4 : tie.Need-loop-less-4 Inv-loop μ-loop
+loop-less-4 c = search needs
+
+loop-again-4 : tie.Need-loop-again-4 Inv-loop μ-loop
+loop-again-4 c =
+    let at = c .before .before .before .before .before .before .loop in
+    let args = c .before .before .before .before .before .before .before .before .before .args in (
+      search needs,
+      search needs,
+      search needs,
+      search needs,
+      rest-not-empty (args .kinds .now) (args .truths .now) (at .i) (at .next) (c .before .before .before .before .before .loop-test .taken) (at .cells) (at .height) (c .if4 .left) (c .before .if3 .taken) ∙ at .inv .4,
+    )
+
+array-copy-out-a-2 : tie.Need-array-copy-out-a-2 Inv-loop μ-loop
+array-copy-out-a-2 c = search needs
+
+sub-b : tie.Need-sub-b Inv-loop μ-loop
+sub-b c = search needs
+
+array-copy-out-b : tie.Need-array-copy-out-b Inv-loop μ-loop
+array-copy-out-b c = search needs
+
+joined-requires : tie.Need-joined-requires Inv-loop μ-loop
+joined-requires c κs = search needs
+
+array-set-from-cells-4 : tie.Need-array-set-from-cells-4 Inv-loop μ-loop
+array-set-from-cells-4 c = search needs
+
+sub-height : tie.Need-sub-height Inv-loop μ-loop
+sub-height c = search needs
+
+loop-less-5 : tie.Need-loop-less-5 Inv-loop μ-loop
+loop-less-5 c = search needs
+
+loop-again-5 : tie.Need-loop-again-5 Inv-loop μ-loop
+loop-again-5 c =
+    let at = c .before .before .before .before .before .before .before .before .before .loop in
+    let args = c .before .before .before .before .before .before .before .before .before .before .before .before .args in (
+      search needs,
+      search needs,
+      search needs,
+      search needs,
+      rest-join (args .kinds .now) (args .truths .now) (at .i) (at .next) (c .before .before .before .before .before .before .before .before .loop-test .taken) (at .cells) (at .height) (c .joined .result) (c .before .before .before .if5 .taken) (omega arith) (c .before .before .before .before .before .before .if1 .left) (omega arith) (c .joined .ensures) ∙ at .inv .4,
+    )
+
+loop-less-6 : tie.Need-loop-less-6 Inv-loop μ-loop
+loop-less-6 c = search needs
+
+loop-again-6 : tie.Need-loop-again-6 Inv-loop μ-loop
+loop-again-6 c =
+    let at = c .before .before .before .before .before .before .loop in
+    let args = c .before .before .before .before .before .before .before .before .before .args in (
+      search needs,
+      search needs,
+      search needs,
+      search needs,
+      rest-join-short (args .kinds .now) (args .truths .now) (at .i) (at .next) (c .before .before .before .before .before .loop-test .taken) (at .cells) (at .height) (c .if5 .left) (c .before .before .before .if1 .left) (omega arith) ∙ at .inv .4,
+    )
+
+returns : tie.Need-returns Inv-loop μ-loop
+returns c =
+    let at = c .before .before .loop in
+    let args = c .before .before .before .before .before .args in
+    rest-known (args .kinds .now) (args .truths .now) (at .next) (at .i) (stackOf (at .cells) (at .height)) (c .before .loop-test .left) (at .inv .4) passes (rw (c .if6 .taken) refl)
+
+sub-t : tie.Need-sub-t Inv-loop μ-loop
+sub-t c = search needs
+
+array-copy-out-t : tie.Need-array-copy-out-t Inv-loop μ-loop
+array-copy-out-t c = search needs
+
+returns-2 : tie.Need-returns-2 Inv-loop μ-loop
+returns-2 c =
+    let at = c .before .before .before .loop in
+    let args = c .before .before .before .before .before .before .args in
+    rest-known (args .kinds .now) (args .truths .now) (at .next) (at .i) (stackOf (at .cells) (at .height)) (c .before .before .loop-test .left) (at .inv .4) (threeOf (getD (at .cells) (at .height - 1) Fails)) (stack-top (at .cells) (at .height) (omega (arith, c .before .if6 .left)))
+
+pub known-spec : {M : Type 1} → statement M
+known-spec =
+    tie.close
+    (tie.spec
+    Inv-loop
+    μ-loop
+    loop-holds
+    shared-slice-read-k
+    add-i
+    pushed-requires
+    array-set-from-cells
+    add-height
+    add-next
+    loop-less
+    loop-again
+    pushed-requires-2
+    array-set-from-cells-2
+    add-height-2
+    loop-less-2
+    loop-again-2
+    array-copy-out-a
+    opposite-requires
+    array-set-from-cells-3
+    loop-less-3
+    loop-again-3
+    loop-less-4
+    loop-again-4
+    array-copy-out-a-2
+    sub-b
+    array-copy-out-b
+    joined-requires
+    array-set-from-cells-4
+    sub-height
+    loop-less-5
+    loop-again-5
+    loop-less-6
+    loop-again-6
+    returns
+    sub-t
+    array-copy-out-t
+    returns-2)
