@@ -56,7 +56,7 @@ Granted v = Each (λ g. v (g .at) ≡ g .want)
 abbrev pub held : List ℤ → Values
 held l v = getD l v (pos 0)
 
--- an answer to "are there such values?", with the values where there are
+-- whether there are such values, with the values where there are
 abbrev pub Opens : Bool → List ℤ → (Values → Type 0) → Type 0
 Opens true l S = S (held l)
 Opens false l S = (x : Values) → ¬ S x

@@ -1,5 +1,5 @@
--- The formulas as one table (FORMAT 5.2, 5.3): each is a line of parts, and a part is a claim about a row. The words are read twice: of rows
--- in `Trouble`, and as programs in `page_formulas`.
+-- The formulas as one table (FORMAT 5.2, 5.3): each is a line of parts, and a part is a claim about a row. The words are read three times: of
+-- rows in `Trouble`, as programs in `page_formulas` (`Formulas`), and as the room that these take (`Costs`).
 use Prim.Native.Nat.{ℕ}
 use mathlib.Core.Bool.{Bool, true, false, cond}
 use mathlib.Core.List.{List, [], _∷_, _++_, map, foldl}

@@ -108,7 +108,8 @@ pub record GreatestLeaf (F : Formula) (x : Values) : Type 0 where
   pub agrees : Agrees x (places (F .program)) decisions
   pub most : (y : Values) → InRange (F .ranges) y → Agrees y (places (F .program)) decisions → (v : ℕ) → T (present (F .ranges) v) → y v ≤ℤ x v
 
--- where the verdict is no, the sheet has the number of a formula and rows with the greatest values at a leaf of it
+-- where the verdict is no, the sheet has the number of a formula and rows with the greatest values at a leaf of it; that they are the first
+-- open formula and its first open leaf is what `sheetOf` says
 abbrev pub OpenGreatest : Type 0
 OpenGreatest =
     (a : ℕ) (s : List ℕ) (q : Question) → Askable a → readOf s ≡ good q → verdictOf a s ≡ good sayNo

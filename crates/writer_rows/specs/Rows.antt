@@ -18,7 +18,7 @@ use Rattle.page_sheets.specs.Rows.{firstRow, Wide}
 abbrev pub rowFor : M.Question → ℕ → Bool → P.Values → Values
 rowFor q i second x = cond second (rowOf2 q x) (firstRow q i x)
 
--- "values of every column of the first row, and of the second where the formula has two"
+-- the value of every column of the first row, then of the second where the formula has two
 abbrev pub rowsFor : M.Question → ℕ → Bool → P.Values → Values
 rowsFor q i pairs x = firstRow q i x ++ cond pairs (rowOf2 q x) []
 
