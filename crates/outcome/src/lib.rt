@@ -1,4 +1,4 @@
-// The answers: writer, checker and routines give them alike (specs/Told gives number and values for each case).
+// The answers: writer, checker and routines give them alike (specs/Answers gives number and values for each case).
 pub enum Verdict {
     Yes,
     No,

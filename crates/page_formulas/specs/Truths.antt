@@ -1,4 +1,4 @@
--- What is known, set against truths. No demand rests on it.
+-- What is known, set against truths.
 use mathlib.Core.Path.{_≡_}
 use mathlib.Core.Bool.{Bool, true, false}
 use mathlib.Core.List.{List, [], _∷_}

@@ -1,4 +1,4 @@
-// The declared types: a formula as the product holds it. specs/Held adds the arrays that hold its program, and specs/Built says what
+// The declared types: a formula as the product holds it. specs/Formulas adds the arrays that hold its program, and specs/Built says what
 // they mean.
 use limits::VERTICES;
 

@@ -1,4 +1,4 @@
-// The declared types: what a column's term is read from. specs/Seen says what it means.
+// The declared types: what a column's term is read from. specs/Sights says what it means.
 use limits::COLUMNS;
 use question::types::Setting;
 

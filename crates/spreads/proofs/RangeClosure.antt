@@ -1,4 +1,4 @@
--- The closure of the ranges in closed form, from the code's arrays: the laws of `Spreads` in page_sheets hold of it.
+-- The closure of the ranges in closed form, from the code's arrays: the laws of `RangeClosure` in page_sheets hold of it.
 use Prim.Native.Nat.{ℕ, zero, suc, _≤_, _<_}
 use mathlib.Core.Path.{_≡_, refl, _∙_, subst}
 use mathlib.Core.Logic.{_≢_}
