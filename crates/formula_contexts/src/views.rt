@@ -1,4 +1,4 @@
-// The rows that a deed's sight sees.
+// The rows that a context's sight sees.
 use sights::types::Sight;
 ghost use mathlib.Core.Path.{_≡_};
 ghost use mathlib.Core.Bool.{_&&_};
