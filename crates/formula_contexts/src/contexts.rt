@@ -16,11 +16,11 @@ ghost use Rattle.page_meaning.specs.Limits.{mostColumns};
 ghost use Rattle.page_meaning.specs.WellFormed.{Reads};
 ghost use Rattle.question.specs.Held.{settingOf, conditionOf};
 ghost use Rattle.sights.specs.Sights.{There};
-ghost use Rattle.pieces.specs.Pieces.{Ready};
+ghost use Rattle.pieces.specs.Pieces.{Compilable};
 ghost use Rattle.formula_contexts.specs.Contexts.{Able, Becomes, Buildable, conditionFor, modesFor, Done};
 
 // What claims are read under: the columns and the list's condition, the change's condition, and the sight of a row after the change.
-pub struct Deed {
+pub struct Context {
     pub sight: Sight,
     pub columns: [Column; COLUMNS],
     pub listed: Condition,
@@ -66,8 +66,8 @@ pub fn under(
     modes: usize,
     chosen: Condition,
     pairs: bool,
-) -> Deed
-    requires { ⌜ Able q × (length settings ≡ mostColumns) × (modes ≤ q .shape .width) × Ready (There q) chosen × Reads (There q) (map settingOf (take modes settings)) ⌝ }
+) -> Context
+    requires { ⌜ Able q × (length settings ≡ mostColumns) × (modes ≤ q .shape .width) × Compilable (There q) chosen × Reads (There q) (map settingOf (take modes settings)) ⌝ }
     ensures { λ r. ⌜ Done q (conditionOf chosen) (map settingOf (take modes settings)) pairs r ⌝ }
 {
     let columns = q.columns;
@@ -81,7 +81,7 @@ pub fn under(
         second: false,
         moved: true,
     };
-    Deed {
+    Context {
         sight,
         columns,
         listed,
@@ -90,8 +90,8 @@ pub fn under(
     }
 }
 
-// The deed of formula i: a row put in, a delete's condition, a modify.
-pub fn deed_of(q: Question, i: usize, pairs: bool) -> Deed
+// The context of formula i: a row put in, a delete's condition, a modify.
+pub fn context_of(q: Question, i: usize, pairs: bool) -> Context
     requires { ⌜ Buildable (q .change .verb) q × (q .change .verb ≡ Verb.Insert → i < q .change .count) ⌝ }
     ensures { λ r. ⌜ Done q (conditionFor (q .change .verb) q) (modesFor (q .change .verb) q i) pairs r ⌝ }
 {

@@ -11,8 +11,8 @@ use Rattle.page_meaning.specs.Contents.{become}
 use Rattle.question.specs.Held.{settingOf}
 use Rattle.formula_contexts.proofs.FilledArrays.{Fill, fill-more, fill-all}
 use borrow.Author.Needs.{needs}
-use Rattle.formula_contexts.proofs.deeds.becoming.Statement.{statement}
-use Rattle.formula_contexts.proofs.deeds.becoming.Tie as tie
+use Rattle.formula_contexts.proofs.contexts.becoming.Statement.{statement}
+use Rattle.formula_contexts.proofs.contexts.becoming.Tie as tie
 
 abbrev Inv-loop : tie.InvT-loop
 Inv-loop row settings₀ j₀ settings j = (j ≤ mostColumns) × Fill become settingOf mostColumns (row .values) settings j

@@ -7,8 +7,8 @@ use Rattle.sights.specs.Sights.{There}
 use Rattle.formula_contexts.specs.Contexts.{Buildable, conditionFor, modesFor, Done, noRow}
 use Rattle.formula_contexts.proofs.Grounds.{put-modes, reads-become}
 use borrow.Author.Needs.{needs}
-use Rattle.formula_contexts.proofs.deeds.deed_of.Statement.{statement}
-use Rattle.formula_contexts.proofs.deeds.deed_of.Tie as tie
+use Rattle.formula_contexts.proofs.contexts.context_of.Statement.{statement}
+use Rattle.formula_contexts.proofs.contexts.context_of.Tie as tie
 
 enum-told : tie.Need-enum-told
 enum-told c = search needs
@@ -70,8 +70,8 @@ returns-2 c = let a = c .before .before .before .before .before .before .args in
 returns-3 : tie.Need-returns-3
 returns-3 c = let a = c .before .before .before .before .before .before .args in subst (λ v. Done (a .q) (conditionFor v (a .q)) (modesFor v (a .q) (a .i)) (a .pairs) (c .under3 .result)) (sym (c .before .before .before .enum-told3 .given .1)) (c .under3 .ensures)
 
-pub deed-of-spec : {M : Type 1} → statement M
-deed-of-spec =
+pub context-of-spec : {M : Type 1} → statement M
+context-of-spec =
     tie.close
     (tie.spec
     enum-told

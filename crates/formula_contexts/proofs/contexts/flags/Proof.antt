@@ -7,8 +7,8 @@ use Rattle.question.specs.declared.types.Column.{Column}
 use Rattle.sights.specs.Sights.{noColumn}
 use Rattle.formula_contexts.proofs.FilledArrays.{Fill, fill-more, fill-all, map-same}
 use borrow.Author.Needs.{needs}
-use Rattle.formula_contexts.proofs.deeds.flags.Statement.{statement}
-use Rattle.formula_contexts.proofs.deeds.flags.Tie as tie
+use Rattle.formula_contexts.proofs.contexts.flags.Statement.{statement}
+use Rattle.formula_contexts.proofs.contexts.flags.Tie as tie
 
 abbrev Inv-loop : tie.InvT-loop
 Inv-loop columns visible₀ i₀ visible i = (i ≤ mostColumns) × Fill (λ (x : Column). x .visible) (λ (b : Bool). b) mostColumns columns visible i

@@ -1,7 +1,7 @@
 use Rattle.formula_contexts.proofs.Grounds.{grounds-done}
 use borrow.Author.Needs.{needs}
-use Rattle.formula_contexts.proofs.deeds.under.Statement.{statement}
-use Rattle.formula_contexts.proofs.deeds.under.Tie as tie
+use Rattle.formula_contexts.proofs.contexts.under.Statement.{statement}
+use Rattle.formula_contexts.proofs.contexts.under.Tie as tie
 
 flags-requires : tie.Need-flags-requires
 flags-requires c κs = search needs
