@@ -1,4 +1,4 @@
-// Facts between vertices: a grid of edge weights by value.
+// Facts between vertices: a grid of edge weights, lent to be read; one more fact gives a grid by value.
 use limits::VERTICES;
 ghost use mathlib.Core.Path.{_≡_};
 ghost use Prim.Native.Nat.{_<_, _≤_};
@@ -36,15 +36,15 @@ pub fn lesser(a: i64, b: i64) -> i64
 
 // One more fact: the grid with one tightened edge.
 pub fn tighten(
-    g: [[i64; VERTICES]; VERTICES],
+    g: &[[i64; VERTICES]; VERTICES],
     from: usize,
     to: usize,
     k: i64,
 ) -> [[i64; VERTICES]; VERTICES]
-    requires { ⌜ (from < mostVertices) × (to < mostVertices) ⌝ }
-    ensures { λ r. ⌜ r ≡ tighten g from to k ⌝ }
+    requires { ⌜ (from < mostVertices) × (to < mostVertices) × Sized mostVertices (now g) ⌝ }
+    ensures { λ r. ⌜ r ≡ tighten (now (g .entry)) from to k ⌝ }
 {
-    let mut h = g;
+    let mut h = *g;
     let least = lesser(h[from][to], k);
     h[from][to] = least;
     h

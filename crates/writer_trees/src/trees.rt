@@ -88,7 +88,7 @@ fn put_search(
     requires { ⌜ (last < mostVertices) × Kept (now g) × Fact last (e .from) (e .to) (e .weight) ⌝ }
     ensures { λ r. ⌜ filling (now (room .exit)) r ≡ puts (filling (now (room .entry)) spot) (bytesOf (cycle (cycleOf (search (weight (tighten (now (g .entry)) (e .from) (e .to) (e .weight))) last)))) ⌝ }
 {
-    let facts = tighten(*g, e.from, e.to, e.weight);
+    let facts = tighten(g, e.from, e.to, e.weight);
     let c = search(&facts, last + 1);
     let vertices = c.vertices;
     put_cycle(room, spot, vertices, c.count)
@@ -168,7 +168,7 @@ fn side(
         let truths = n.truths;
         return cut(room, spot, kinds, truths, decided, g, n.last, e);
     }
-    let facts = tighten(*g, e.from, e.to, e.weight);
+    let facts = tighten(g, e.from, e.to, e.weight);
     let mut closer = *near;
     relax_in(&mut closer, n.last + 1, e.from, e.to, e.weight);
     grow(room, n, kinds, left, right, most, &facts, &closer)

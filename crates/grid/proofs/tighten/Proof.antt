@@ -1,4 +1,5 @@
 use mathlib.Core.Path.{ap, _∙_}
+use denote.Ref.{now}
 use lib.IntN.{ℤ, pos}
 use lib.ListN.{getD, set}
 use mir.Syntax.{w64}
@@ -7,7 +8,7 @@ use mir.Facts.{toZ-ofZ}
 use Rattle.page_numbers.specs.Numbers.{minZ}
 use Rattle.page_meaning.specs.Limits.{mostVertices}
 use Rattle.page_walks.specs.Grid.{row, tighten}
-use Rattle.page_walks.proofs.Rows.{read, sized}
+use Rattle.page_walks.proofs.Rows.{read}
 use borrow.Author.Needs.{needs}
 use Rattle.grid.proofs.tighten.Statement.{statement}
 use Rattle.grid.proofs.tighten.Tie as tie
@@ -42,12 +43,14 @@ index-2-least c = search needs
 returns : tie.Need-returns
 unfolding tighten
 returns c =
-    let a = c .before .before .args in
-    let old : SFits w64 (getD (row (a .g) (a .from)) (a .to) (pos 0)) = record { sfits = c .before .lesser-arg .given } in
-    ap (λ (z : ℤ). set (a .g) (a .from) (set (row (a .g) (a .from)) (a .to) z))
+    let s = c .before .before .before in
+    let a = s .args in
+    let g = now (a .g) in
+    let old : SFits w64 (getD (row g (a .from)) (a .to) (pos 0)) = record { sfits = c .before .lesser-arg .given } in
+    ap (λ (z : ℤ). set g (a .from) (set (row g (a .from)) (a .to) z))
     (toZ-ofZ (record { sfits = c .lesser .ok })
-    ∙ (simp (toZ-ofZ, c .before .before .fits .k, old) at (c .lesser .ensures))
-    ∙ ap (λ (z : ℤ). minZ z (a .k)) (read mostVertices (a .g) (a .from) (a .to) (sized mostVertices (a .g) _ (c .before .before .good .0)) (c .before .before .pre .0) (c .before .before .pre .1)))
+    ∙ (simp (toZ-ofZ, s .fits .k, old) at (c .lesser .ensures))
+    ∙ ap (λ (z : ℤ). minZ z (a .k)) (read mostVertices g (a .from) (a .to) (s .pre .2) (s .pre .0) (s .pre .1)))
 
 pub tighten-spec : {M : Type 1} → statement M
 tighten-spec =

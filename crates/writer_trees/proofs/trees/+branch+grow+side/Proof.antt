@@ -252,33 +252,33 @@ side-add-relax-in t c = search needs
 
 side-relax-in-requires : (t : ℕ) → side-lts.Need-relax-in-requires (side-calls t) (side-at t) side.Post
 side-relax-in-requires t c κs =
-    let s = c .before .before .before .before .before .before .before .before .before .before .before .before .before .before .before .before .before .before .before in
+    let s = c .before .before .before .before .before .before .before .before .before .before .before .before .before .before .before .before .before .before in
     let a = s .args in
     let n = a .h .node in
     ((omega (arith, s .pre .1 .3 .places .few), omega (arith, s .pre .1 .2 .from-is), omega (arith, s .pre .1 .2 .to-is), s .pre .1 .3 .table), (simp (toZ-ofZ, weight-fits t s) (fact-bounded (n .last) (a .h .fact .from) (a .h .fact .to) (a .h .fact .weight) (s .pre .1 .2)), (simp add-one (tight-within (suc (n .last)) (now (a .near)) (s .pre .1 .3 .tight)), subst (λ m. Triangle m (weight (now (a .near)))) (sym (add-one (n .last))) (s .pre .1 .3 .tight .triangle))))
 
 -- the facts that are handed on
-facts-are : (t : ℕ) (c : side-lts.After-tighten (side-calls t) (side-at t) side.Post) → let a = c .before .before .before .before .before .before .before .before .before .before .before .before .before .before .before .args in let e = a .h .fact in c .tighten .result ≡ tighten (now (a .g)) (e .from) (e .to) (e .weight)
-facts-are t c = let s = c .before .before .before .before .before .before .before .before .before .before .before .before .before .before .before in c .tighten .ensures ∙ ap (tighten (now (s .args .g)) (s .args .h .fact .from) (s .args .h .fact .to)) (toZ-ofZ {w = w64} (weight-fits t s))
+facts-are : (t : ℕ) (c : side-lts.After-tighten (side-calls t) (side-at t) side.Post) → let a = c .before .before .before .before .before .before .before .before .before .before .before .before .before .before .args in let e = a .h .fact in c .tighten .result ≡ tighten (now (a .g)) (e .from) (e .to) (e .weight)
+facts-are t c = let s = c .before .before .before .before .before .before .before .before .before .before .before .before .before .before in c .tighten .ensures ∙ ap (tighten (now (s .args .g)) (s .args .h .fact .from) (s .args .h .fact .to)) (toZ-ofZ {w = w64} (weight-fits t s))
 
 -- and their closure
-closer-is : (t : ℕ) (c : side-lts.After-relax-in (side-calls t) (side-at t) side.Post) → let a = c .before .before .before .before .before .before .before .before .before .before .before .before .before .before .before .before .before .before .before .before .args in let e = a .h .fact in c .relax-in .last .0 ≡ tabled (relax (weight (now (a .near))) (e .from) (e .to) (e .weight)) (suc (a .h .node .last)) (now (a .near))
-closer-is t c = let s = c .before .before .before .before .before .before .before .before .before .before .before .before .before .before .before .before .before .before .before .before in let e = s .args .h .fact in c .relax-in .ensures ∙ ap₂ (λ z m. tabled (relax (weight (now (s .args .near))) (e .from) (e .to) z) m (now (s .args .near))) (toZ-ofZ {w = w64} (weight-fits t s)) (add-one (s .args .h .node .last))
+closer-is : (t : ℕ) (c : side-lts.After-relax-in (side-calls t) (side-at t) side.Post) → let a = c .before .before .before .before .before .before .before .before .before .before .before .before .before .before .before .before .before .before .before .args in let e = a .h .fact in c .relax-in .last .0 ≡ tabled (relax (weight (now (a .near))) (e .from) (e .to) (e .weight)) (suc (a .h .node .last)) (now (a .near))
+closer-is t c = let s = c .before .before .before .before .before .before .before .before .before .before .before .before .before .before .before .before .before .before .before in let e = s .args .h .fact in c .relax-in .ensures ∙ ap₂ (λ z m. tabled (relax (weight (now (s .args .near))) (e .from) (e .to) z) m (now (s .args .near))) (toZ-ofZ {w = w64} (weight-fits t s)) (add-one (s .args .h .node .last))
 
 side-grow-requires : (t : ℕ) → side-lts.Need-grow-requires (side-calls t) (side-at t) side.Post
 side-grow-requires t c κs =
-    let s = c .before .before .before .before .before .before .before .before .before .before .before .before .before .before .before .before .before .before .before .before .before .before .before in
+    let s = c .before .before .before .before .before .before .before .before .before .before .before .before .before .before .before .before .before .before .before .before .before .before in
     let a = s .args in
-    (omega (arith, s .pre .0), (s .pre .1 .0, s .pre .1 .1, ready-handed (a .h .node .last) (now (a .left)) (now (a .right)) (now (a .most)) (now (a .g)) (now (a .near)) (s .pre .1 .3) (a .h .fact .from) (a .h .fact .to) (a .h .fact .weight) (s .pre .1 .2) _ _ _ (sum-is t (c .before .before .before .before .before .before .before .before .before .before .before .before)) (facts-are t (c .before .before .before .before .before .before .before .before)) (closer-is t (c .before .before .before)) (c .before .before .before .before .before .before .before .before .before .before .before .if2 .left)))
+    (omega (arith, s .pre .0), (s .pre .1 .0, s .pre .1 .1, ready-handed (a .h .node .last) (now (a .left)) (now (a .right)) (now (a .most)) (now (a .g)) (now (a .near)) (s .pre .1 .3) (a .h .fact .from) (a .h .fact .to) (a .h .fact .weight) (s .pre .1 .2) _ _ _ (sum-is t (c .before .before .before .before .before .before .before .before .before .before .before)) (facts-are t (c .before .before .before .before .before .before .before .before)) (closer-is t (c .before .before .before)) (c .before .before .before .before .before .before .before .before .before .before .if2 .left)))
 
 side-same-length-2 : (t : ℕ) → side-lts.Need-same-length-2 (side-calls t) (side-at t) side.Post
 side-same-length-2 t c = search needs
 
 side-returns-3 : (t : ℕ) → side-lts.Need-returns-3 (side-calls t) (side-at t) side.Post
 side-returns-3 t c =
-    let s = c .before .before .before .before .before .before .before .before .before .before .before .before .before .before .before .before .before .before .before .before .before .before .before .before .before .before in
+    let s = c .before .before .before .before .before .before .before .before .before .before .before .before .before .before .before .before .before .before .before .before .before .before .before .before .before in
     let a = s .args in
-    λ F lent. side-calm F (now (a .kinds)) (now (a .left)) (now (a .right)) (now (a .most)) lent (now (a .g)) (now (a .near)) (a .h) _ _ _ (sum-is t (c .before .before .before .before .before .before .before .before .before .before .before .before .before .before .before)) (facts-are t (c .before .before .before .before .before .before .before .before .before .before .before)) (closer-is t (c .before .before .before .before .before .before)) (now (a .room)) _ (a .h .node .spot) (c .before .before .grow .result) (c .before .before .before .before .before .before .before .before .before .before .before .before .before .before .if2 .left) (s .pre .1 .3) (c .before .before .grow .ensures F lent)
+    λ F lent. side-calm F (now (a .kinds)) (now (a .left)) (now (a .right)) (now (a .most)) lent (now (a .g)) (now (a .near)) (a .h) _ _ _ (sum-is t (c .before .before .before .before .before .before .before .before .before .before .before .before .before .before)) (facts-are t (c .before .before .before .before .before .before .before .before .before .before .before)) (closer-is t (c .before .before .before .before .before .before)) (now (a .room)) _ (a .h .node .spot) (c .before .before .grow .result) (c .before .before .before .before .before .before .before .before .before .before .before .before .before .if2 .left) (s .pre .1 .3) (c .before .before .grow .ensures F lent)
 
 pub +branch+grow+side-spec : {M : Type 1} → statement M
 +branch+grow+side-spec = close μ-branch μ-grow μ-side (λ t. branch-lts.spec (branch-calls t) (branch-at t) branch.Post (branch-sub-decided t) (branch-shared-slice-read-a t) (branch-cast-a t) (branch-shared-slice-read-b t) (branch-cast-b t) (branch-mul-w t) (branch-shared-slice-copy-out-w t) (branch-put-requires t) (branch-half-at-requires t) (branch-side-requires t) (branch-negation-requires t) (branch-half-at-requires-2 t) (branch-side-requires-2 t) (branch-same-length t) (branch-returns t))

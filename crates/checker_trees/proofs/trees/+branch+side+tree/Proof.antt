@@ -1,0 +1,196 @@
+-- A node, its branch and its halves, which call each other: by the places left, and which of the three it is.
+use mathlib.Core.Bool.{true, false}
+use Prim.Native.Nat.{_+_, _-_, ℕ, _<_}
+use mathlib.Core.Path.{_≡_, refl, sym, ap, _∙_}
+use native.Mathlib.Omega.{arith}
+use borrow.Author.Needs.{needs}
+use lib.ListN.{length, length-map}
+use mir.Facts.{toZ-ofZ}
+use Rattle.page_meaning.specs.Limits.{mostVertices, mostDecisions}
+use Rattle.page_walks.proofs.Rounds.{below-at}
+use Rattle.page_walks.proofs.Grids.{tighten-sized}
+use Rattle.page_sheets.specs.Facts.{decide}
+use Rattle.program.specs.Lent.{placeAt}
+use Rattle.checker_trees.proofs.NodeReading.{left-end, left-false, left-cycle, left-other, left-none, left-bad, left-both}
+use Rattle.page_sheets.proofs.Bounds.{decide-within}
+use Rattle.checker_trees.specs.declared.trees.Stage.{Stage}
+use borrow.Fn.Kinds.{In}
+use borrow.Fn.PlainCycle.{Measures, is, falls, and}
+use Rattle.checker_trees.proofs.trees.branch.Reads as branch
+use Rattle.checker_trees.proofs.trees.branch.Kinds as branch-kinds
+use Rattle.checker_trees.proofs.trees.+branch+side+tree.Lts-branch as branch-lts
+use Rattle.checker_trees.proofs.trees.side.Reads as side
+use Rattle.checker_trees.proofs.trees.side.Kinds as side-kinds
+use Rattle.checker_trees.proofs.trees.+branch+side+tree.Lts-side as side-lts
+use Rattle.checker_trees.proofs.trees.tree.Reads as tree
+use Rattle.checker_trees.proofs.trees.tree.Kinds as tree-kinds
+use Rattle.checker_trees.proofs.trees.+branch+side+tree.Lts-tree as tree-lts
+use Rattle.checker_nodes.proofs.cycle.Reads as cycle-reads
+use Rattle.checker_nodes.proofs.false_leaf.Reads as false-leaf-reads
+use Rattle.checker_trees.proofs.trees.below.Reads as below-reads
+use Rattle.facts.proofs.decide.Reads as decide-reads
+use Rattle.checker_trees.proofs.trees.+branch+side+tree.{statement}
+use Rattle.checker_trees.proofs.trees.+branch+side+tree.Tie.{close}
+
+abbrev μ-branch : Measures 7 branch-kinds.ps ℕ
+μ-branch κs a = let u = a .1 .1 .1 .1 .1 .1 .1 .0 .todo in u + u + u
+
+abbrev μ-side : Measures 7 side-kinds.ps ℕ
+μ-side κs a = let u = a .1 .1 .1 .1 .1 .1 .1 .0 .stage .todo in u + u + u + 2
+
+abbrev μ-tree : Measures 7 tree-kinds.ps ℕ
+μ-tree κs a = let u = a .1 .1 .1 .1 .1 .1 .1 .0 .todo in u + u + u + 1
+
+abbrev branch-at : ℕ → In 7 branch-kinds.ps
+branch-at t = and 7 branch-kinds.ps (is 7 branch-kinds.ps μ-branch t) branch.Pre
+
+abbrev branch-below : ℕ → In 7 branch-kinds.ps
+branch-below t = and 7 branch-kinds.ps (falls 7 branch-kinds.ps _<_ μ-branch t) branch.Pre
+
+abbrev side-at : ℕ → In 7 side-kinds.ps
+side-at t = and 7 side-kinds.ps (is 7 side-kinds.ps μ-side t) side.Pre
+
+abbrev side-below : ℕ → In 7 side-kinds.ps
+side-below t = and 7 side-kinds.ps (falls 7 side-kinds.ps _<_ μ-side t) side.Pre
+
+abbrev tree-at : ℕ → In 7 tree-kinds.ps
+tree-at t = and 7 tree-kinds.ps (is 7 tree-kinds.ps μ-tree t) tree.Pre
+
+abbrev tree-below : ℕ → In 7 tree-kinds.ps
+tree-below t = and 7 tree-kinds.ps (falls 7 tree-kinds.ps _<_ μ-tree t) tree.Pre
+
+abbrev branch-calls : ℕ → branch-lts.Claims
+branch-calls t = (below-reads.Asked, below-reads.Learnt, side-below t, side.Post)
+
+abbrev side-calls : ℕ → side-lts.Claims
+side-calls t = (decide-reads.Asked, decide-reads.Learnt, tree-below t, tree.Post)
+
+abbrev tree-calls : ℕ → tree-lts.Claims
+tree-calls t = (false-leaf-reads.Asked, false-leaf-reads.Learnt, cycle-reads.Asked, cycle-reads.Learnt, branch-below t, branch.Post)
+
+-- the truths are as many as declared, and the place that is decided is one of them
+room : (t : ℕ) (s : branch-lts.Start (branch-calls t) (branch-at t) branch.Post) → length (s .args .left .now) - s .args .stage .todo < length (s .args .stage .truths)
+room t s = let whole : length (s .args .stage .truths) ≡ mostDecisions = sym (length-map (s .args .stage .truths) _) ∙ s .good .1 .1 .1 .1 .1 .1 .1 .0 .1 .1 .1 .0 .1 .0 .1 in omega (arith, whole, s .pre .1 .0 .places .few, s .pre .1 .1 .0 .0, s .pre .1 .1 .1 .0)
+
+branch-sub-place : (t : ℕ) → branch-lts.Need-sub-place (branch-calls t) (branch-at t) branch.Post
+branch-sub-place t c = search needs
+
+branch-add-below : (t : ℕ) → branch-lts.Need-add-below (branch-calls t) (branch-at t) branch.Post
+branch-add-below t c = search needs
+
+branch-below-requires : (t : ℕ) → branch-lts.Need-below-requires (branch-calls t) (branch-at t) branch.Post
+branch-below-requires t c κs = let s = c .before .before .before .before .before .before .before in (omega (arith, s .pre .1 .0 .places .few, s .pre .1 .1 .0 .0, s .pre .1 .1 .1 .0), s .pre .1 .1 .1 .0)
+
+branch-side-requires : (t : ℕ) → branch-lts.Need-side-requires (branch-calls t) (branch-at t) branch.Post
+branch-side-requires t c κs = let s = c .before .before .before .before .before .before .before .before in
+    let left : c .below .result .todo ≡ s .args .stage .todo - 1 = ap (λ (x : Stage). x .todo) (c .below .ensures) in
+    (omega (arith, left, s .pre .0, s .pre .1 .1 .1 .0), (s .pre .1 .0, (omega (arith, s .pre .1 .1 .0 .0, s .pre .1 .1 .1 .0), omega (arith, left, s .pre .1 .1 .0 .0), s .pre .1 .1 .0 .1, s .pre .1 .1 .0 .2)))
+
+branch-enum-known-one : (t : ℕ) → branch-lts.Need-enum-known-one (branch-calls t) (branch-at t) branch.Post
+branch-enum-known-one t c = search needs
+
+branch-below-requires-2 : (t : ℕ) → branch-lts.Need-below-requires-2 (branch-calls t) (branch-at t) branch.Post
+branch-below-requires-2 t c κs = let s = c .before .before .before .before .before .before .before .before .before .before .before .before in (omega (arith, s .pre .1 .0 .places .few, s .pre .1 .1 .0 .0, s .pre .1 .1 .1 .0), s .pre .1 .1 .1 .0)
+
+branch-side-requires-2 : (t : ℕ) → branch-lts.Need-side-requires-2 (branch-calls t) (branch-at t) branch.Post
+branch-side-requires-2 t c κs = let s = c .before .before .before .before .before .before .before .before .before .before .before .before .before in
+    let left : c .below2 .result .todo ≡ s .args .stage .todo - 1 = ap (λ (x : Stage). x .todo) (c .below2 .ensures) in
+    (omega (arith, left, s .pre .0, s .pre .1 .1 .1 .0), (s .pre .1 .0, (omega (arith, s .pre .1 .1 .0 .0, s .pre .1 .1 .1 .0), omega (arith, left, s .pre .1 .1 .0 .0), s .pre .1 .1 .0 .1, s .pre .1 .1 .0 .2)))
+
+branch-enum-known-one-2 : (t : ℕ) → branch-lts.Need-enum-known-one-2 (branch-calls t) (branch-at t) branch.Post
+branch-enum-known-one-2 t c = search needs
+
+branch-returns : (t : ℕ) → branch-lts.Need-returns (branch-calls t) (branch-at t) branch.Post
+branch-returns t c = λ F base lent shows.
+    let one = c .before .before .before .one .given in
+    let e = c .before .before .before .before .before in
+    let s = e .before .before .before .before .before .before .before .before .before in
+    let a = s .args in
+    left-both F (a .stage .truths) (a .g .now) (a .part .now) (a .stage .at) base (a .stage .todo) (s .pre .1 .1 .1 .1) (s .pre .1 .1 .1 .2) (a .kinds .now) (a .left .now) (a .right .now) (a .most .now) lent (λ none. omega (arith, none, s .pre .1 .1 .1 .0)) (s .pre .1 .1 .0 .0) _ refl (room t s) (one .0 .0) _
+    (rw (e .before .below .ensures, one .1) at (e .side .ensures F base lent shows))
+    (rw (c .before .below2 .ensures) at (c .side2 .ensures F base lent shows))
+
+branch-returns-2 : (t : ℕ) → branch-lts.Need-returns-2 (branch-calls t) (branch-at t) branch.Post
+branch-returns-2 t c = λ F base lent shows.
+    let e = c .before .before .before in
+    let s = e .before .before .before .before .before .before .before .before .before in
+    let a = s .args in
+    left-bad F (a .stage .truths) (a .g .now) (a .part .now) (a .stage .at) base (a .stage .todo) (s .pre .1 .1 .1 .1) (s .pre .1 .1 .1 .2) (a .kinds .now) (a .left .now) (a .right .now) (a .most .now) lent (λ none. omega (arith, none, s .pre .1 .1 .1 .0)) (s .pre .1 .1 .0 .0) _ refl (room t s) _ _
+    (rw (e .before .below .ensures, c .before .one2 .given .1) at (e .side .ensures F base lent shows))
+
+side-shared-slice-read-decide : (t : ℕ) → side-lts.Need-shared-slice-read-decide (side-calls t) (side-at t) side.Post
+side-shared-slice-read-decide t c = search needs
+
+side-shared-slice-read-decide-2 : (t : ℕ) → side-lts.Need-shared-slice-read-decide-2 (side-calls t) (side-at t) side.Post
+side-shared-slice-read-decide-2 t c = let s = c .before .before .before .before .before .before .before in omega (arith, s .pre .1 .0 .places .rights, s .pre .1 .1 .0)
+
+side-mul-decide : (t : ℕ) → side-lts.Need-mul-decide (side-calls t) (side-at t) side.Post
+side-mul-decide t c = let s = c .before .before .before .before .before .before .before in omega (arith, s .pre .1 .0 .places .few, s .pre .1 .1 .0)
+
+side-shared-slice-copy-out-decide : (t : ℕ) → side-lts.Need-shared-slice-copy-out-decide (side-calls t) (side-at t) side.Post
+side-shared-slice-copy-out-decide t c = let s = c .before .before .before .before .before .before .before in omega (arith, s .pre .1 .0 .places .mosts, s .pre .1 .1 .0)
+
+side-decide-requires : (t : ℕ) → side-lts.Need-decide-requires (side-calls t) (side-at t) side.Post
+side-decide-requires t c κs = let s = c .before .before .before .before .before .before .before .before in
+    let p = s .pre .1 .0 .places in
+    (below-at mostVertices (s .args .left .now) (s .args .h .place) (p .left-below) (s .pre .1 .1 .0), below-at mostVertices (s .args .right .now) (s .args .h .place) (p .right-below) (omega (arith, p .rights, s .pre .1 .1 .0)), s .pre .1 .1 .2)
+
+-- the facts that are handed on
+facts-are : (t : ℕ) (c : side-lts.After-decide (side-calls t) (side-at t) side.Post) → let a = c .before .before .before .before .before .before .before .before .before .args in c .decide .result ≡ decide (a .g .now) (placeAt (a .left .now) (a .right .now) (a .most .now) (a .h .place)) (a .h .truth)
+facts-are t c = c .decide .ensures ∙ rw (toZ-ofZ (record { sfits = c .before .decide-arg .given }))
+
+side-tree-requires : (t : ℕ) → side-lts.Need-tree-requires (side-calls t) (side-at t) side.Post
+side-tree-requires t c κs = let s = c .before .before .before .before .before .before .before .before .before .before .before in
+    let a = s .args in
+    let p = s .pre .1 .0 .places in
+    let e = facts-are t (c .before .before) in
+    (omega (arith, s .pre .0), (s .pre .1 .0, (s .pre .1 .1 .1, rw e (tighten-sized mostVertices (a .g .now) _ _ _ (s .pre .1 .1 .2)), rw e (decide-within mostVertices (a .g .now) (placeAt (a .left .now) (a .right .now) (a .most .now) (a .h .place)) (a .h .truth) (s .pre .1 .1 .3) (p .small (a .h .place) (omega (arith, p .mosts, s .pre .1 .1 .0)))))))
+
+side-returns : (t : ℕ) → side-lts.Need-returns (side-calls t) (side-at t) side.Post
+side-returns t c = λ F base lent shows. rw (facts-are t (c .before .before .before)) at (c .tree .ensures F base lent shows)
+
+tree-returns : (t : ℕ) → tree-lts.Need-returns (tree-calls t) (tree-at t) tree.Post
+tree-returns t c = λ F base lent shows. let a = c .before .before .before .before .before .before .before .args in left-end F (a .stage .truths) (a .g .now) (a .part .now) (a .stage .at) base (a .stage .todo) (c .if1 .taken)
+
+tree-shared-slice-read-node : (t : ℕ) → tree-lts.Need-shared-slice-read-node (tree-calls t) (tree-at t) tree.Post
+tree-shared-slice-read-node t c = search needs
+
+tree-sub-decided : (t : ℕ) → tree-lts.Need-sub-decided (tree-calls t) (tree-at t) tree.Post
+tree-sub-decided t c = search needs
+
+tree-false-leaf-requires : (t : ℕ) → tree-lts.Need-false-leaf-requires (tree-calls t) (tree-at t) tree.Post
+tree-false-leaf-requires t c κs = let s = c .before .before .before .before .before .before .before .before .before in (s .pre .1 .0 .short, omega (arith, s .pre .1 .0 .places .few), c .before .before .if1 .left)
+
+tree-returns-2 : (t : ℕ) → tree-lts.Need-returns-2 (tree-calls t) (tree-at t) tree.Post
+tree-returns-2 t c = λ F base lent shows.
+    let a = c .before .before .before .before .before .before .before .before .before .before .args in
+    c .false-leaf .ensures base ∙ rw (lent .kinds) (left-false F (a .stage .truths) (a .g .now) (a .part .now) (a .stage .at) base (a .stage .todo) (c .before .before .before .if1 .left) (length (a .left .now) - a .stage .todo) (ap (λ n. n - a .stage .todo) (ap length (lent .left) ∙ simp length-map)) (c .before .if2 .taken))
+
+tree-cycle-requires : (t : ℕ) → tree-lts.Need-cycle-requires (tree-calls t) (tree-at t) tree.Post
+tree-cycle-requires t c κs = let s = c .before .before .before .before .before .before .before .before .before .before in ((s .pre .1 .0 .flags, c .before .before .before .if1 .left), (s .pre .1 .1 .1, s .pre .1 .1 .2))
+
+tree-returns-3 : (t : ℕ) → tree-lts.Need-returns-3 (tree-calls t) (tree-at t) tree.Post
+tree-returns-3 t c = λ F base lent shows.
+    let a = c .before .before .before .before .before .before .before .before .before .before .before .args in
+    c .cycle .ensures F base shows ∙ left-cycle F (a .stage .truths) (a .g .now) (a .part .now) (a .stage .at) base (a .stage .todo) (c .before .before .before .before .if1 .left) (c .before .if3 .taken)
+
+tree-returns-4 : (t : ℕ) → tree-lts.Need-returns-4 (tree-calls t) (tree-at t) tree.Post
+tree-returns-4 t c = λ F base lent shows.
+    let a = c .before .before .before .before .before .before .before .before .before .before .before .args in
+    left-other F (a .stage .truths) (a .g .now) (a .part .now) (a .stage .at) base (a .stage .todo) (c .before .before .before .before .if1 .left) (c .before .before .if2 .left) (c .before .if3 .left) (c .if4 .taken)
+
+tree-returns-5 : (t : ℕ) → tree-lts.Need-returns-5 (tree-calls t) (tree-at t) tree.Post
+tree-returns-5 t c = λ F base lent shows.
+    let a = c .before .before .before .before .before .before .before .before .before .before .before .before .args in
+    left-none F (a .stage .truths) (a .g .now) (a .part .now) (a .stage .at) base (a .stage .todo) (c .before .before .before .before .before .if1 .left) (c .before .if4 .left) (c .if5 .taken)
+
+tree-branch-requires : (t : ℕ) → tree-lts.Need-branch-requires (tree-calls t) (tree-at t) tree.Post
+tree-branch-requires t c κs = let s = c .before .before .before .before .before .before .before .before .before .before .before .before in (omega (arith, s .pre .0), (s .pre .1 .0, (s .pre .1 .1, (omega (arith, c .if5 .left), c .before .before .before .before .before .if1 .left, c .before .if4 .left))))
+
+tree-returns-6 : (t : ℕ) → tree-lts.Need-returns-6 (tree-calls t) (tree-at t) tree.Post
+tree-returns-6 t c = c .branch .ensures
+
+pub +branch+side+tree-spec : {M : Type 1} → statement M
++branch+side+tree-spec = close μ-branch μ-side μ-tree (λ t. branch-lts.spec (branch-calls t) (branch-at t) branch.Post (branch-sub-place t) (branch-add-below t) (branch-below-requires t) (branch-side-requires t) (branch-enum-known-one t) (branch-below-requires-2 t) (branch-side-requires-2 t) (branch-enum-known-one-2 t) (branch-returns t) (branch-returns-2 t))
+    (λ t. side-lts.spec (side-calls t) (side-at t) side.Post (side-shared-slice-read-decide t) (side-shared-slice-read-decide-2 t) (side-mul-decide t) (side-shared-slice-copy-out-decide t) (side-decide-requires t) (side-tree-requires t) (side-returns t))
+    (λ t. tree-lts.spec (tree-calls t) (tree-at t) tree.Post (tree-returns t) (tree-shared-slice-read-node t) (tree-sub-decided t) (tree-false-leaf-requires t) (tree-returns-2 t) (tree-cycle-requires t) (tree-returns-3 t) (tree-returns-4 t) (tree-returns-5 t) (tree-branch-requires t) (tree-returns-6 t))
