@@ -83,24 +83,28 @@ fn branch(
     ensures { λ r. ⌜ ((F : Formula) (base : ℕ) → Lent (F .program) (now (kinds .entry)) (now (left .entry)) (now (right .entry)) (now (most .entry)) → Flagged (now (shown .entry)) (F .ranges) → outcomeOf base (now (part .entry)) r ≡ checkLeft F (stage .todo) (stage .truths) (now (g .entry)) (base + stage .at) (drop (stage .at) (now (part .entry)))) ⌝ }
 {
     let place = left.len() - stage.todo;
-    let yes = below(stage, stage.at + 1, place, 1);
-    let first = Half {
-        stage: yes,
-        place,
-        truth: true,
-    };
-    let one = side(kinds, left, right, most, shown, part, g, first);
-    match one {
-        Past::Good(p) => {
-            let no = below(stage, p, place, 0);
-            let second = Half {
-                stage: no,
-                place,
-                truth: false,
-            };
-            side(kinds, left, right, most, shown, part, g, second)
+    let mut at = stage.at + 1;
+    let mut truth: u8 = 1;
+    loop {
+        let next = below(stage, at, place, truth);
+        let half = Half {
+            stage: next,
+            place,
+            truth: truth == 1,
+        };
+        let one = side(kinds, left, right, most, shown, part, g, half);
+        match one {
+            Past::Good(p) => {
+                if truth == 0 {
+                    return Past::Good(p);
+                }
+                at = p;
+                truth = 0;
+            }
+            Past::Refused(number, p) => {
+                return Past::Refused(number, p);
+            }
         }
-        Past::Refused(number, p) => Past::Refused(number, p),
     }
 }
 

@@ -1,17 +1,21 @@
 -- A node, its branch and its halves, which call each other: by the places left, and which of the three it is.
 use mathlib.Core.Bool.{true, false}
-use Prim.Native.Nat.{_+_, _-_, ℕ, _<_}
+use Prim.Native.Nat.{_+_, _-_, ℕ, _≤_, _<_}
 use mathlib.Core.Path.{_≡_, refl, sym, ap, _∙_}
 use native.Mathlib.Omega.{arith}
 use borrow.Author.Needs.{needs}
-use lib.ListN.{length, length-map}
+use lib.Dec.{eqb}
+use lib.ListN.{length, drop, set, length-map}
 use mir.Facts.{toZ-ofZ}
 use Rattle.page_meaning.specs.Limits.{mostVertices, mostDecisions}
 use Rattle.page_walks.proofs.Rounds.{below-at}
 use Rattle.page_walks.proofs.Grids.{tighten-sized}
 use Rattle.page_sheets.specs.Facts.{decide}
-use Rattle.program.specs.Lent.{placeAt}
-use Rattle.checker_trees.proofs.NodeReading.{left-end, left-false, left-cycle, left-other, left-none, left-bad, left-both}
+use Rattle.page_numbers.specs.Outcome.{good}
+use Rattle.page_formulas.specs.Formulas.{Formula}
+use Rattle.program.specs.Lent.{Lent, Flagged, placeAt}
+use Rattle.checker_trees.specs.Checks.{checkLeft}
+use Rattle.checker_trees.proofs.NodeReading.{left-end, left-false, left-cycle, left-other, left-none, left-both, left-refused}
 use Rattle.page_sheets.proofs.Bounds.{decide-within}
 use Rattle.checker_trees.specs.declared.trees.Stage.{Stage}
 use borrow.Fn.Kinds.{In}
@@ -68,54 +72,68 @@ side-calls t = (decide-reads.Asked, decide-reads.Learnt, tree-below t, tree.Post
 abbrev tree-calls : ℕ → tree-lts.Claims
 tree-calls t = (false-leaf-reads.Asked, false-leaf-reads.Learnt, cycle-reads.Asked, cycle-reads.Learnt, branch-below t, branch.Post)
 
+-- the half that is next is the first, or the first has passed and ends where the second begins
+abbrev branch-Inv-loop : branch-lts.InvT-loop
+branch-Inv-loop kinds left right most shown part g stage place at₀ truth₀ at truth =
+    (truth ≤ 1)
+    × (truth ≡ 1 → at ≡ stage .at + 1)
+    × (truth ≡ 0 → (F : Formula) (base : ℕ) → Lent (F .program) kinds left right most → Flagged shown (F .ranges) → good (base + at, drop at part) ≡ checkLeft F (stage .todo - 1) (set (stage .truths) place 1) (decide g (placeAt left right most place) true) (base + (stage .at + 1)) (drop (stage .at + 1) part))
+
+abbrev branch-μ-loop : branch-lts.MeasureT-loop
+branch-μ-loop kinds left right most shown part g stage place at₀ truth₀ at truth = truth
+
 -- the truths are as many as declared, and the place that is decided is one of them
-room : (t : ℕ) (s : branch-lts.Start (branch-calls t) (branch-at t) branch.Post) → length (s .args .left .now) - s .args .stage .todo < length (s .args .stage .truths)
+room : (t : ℕ) (s : branch-lts.Start (branch-calls t) (branch-at t) branch.Post branch-Inv-loop branch-μ-loop) → length (s .args .left .now) - s .args .stage .todo < length (s .args .stage .truths)
 room t s = let whole : length (s .args .stage .truths) ≡ mostDecisions = sym (length-map (s .args .stage .truths) _) ∙ s .good .1 .1 .1 .1 .1 .1 .1 .0 .1 .1 .1 .0 .1 .0 .1 in omega (arith, whole, s .pre .1 .0 .places .few, s .pre .1 .1 .0 .0, s .pre .1 .1 .1 .0)
 
-branch-sub-place : (t : ℕ) → branch-lts.Need-sub-place (branch-calls t) (branch-at t) branch.Post
+branch-sub-place : (t : ℕ) → branch-lts.Need-sub-place (branch-calls t) (branch-at t) branch.Post branch-Inv-loop branch-μ-loop
 branch-sub-place t c = search needs
 
-branch-add-below : (t : ℕ) → branch-lts.Need-add-below (branch-calls t) (branch-at t) branch.Post
-branch-add-below t c = search needs
+branch-add-at : (t : ℕ) → branch-lts.Need-add-at (branch-calls t) (branch-at t) branch.Post branch-Inv-loop branch-μ-loop
+branch-add-at t c = search needs
 
-branch-below-requires : (t : ℕ) → branch-lts.Need-below-requires (branch-calls t) (branch-at t) branch.Post
-branch-below-requires t c κs = let s = c .before .before .before .before .before .before .before in (omega (arith, s .pre .1 .0 .places .few, s .pre .1 .1 .0 .0, s .pre .1 .1 .1 .0), s .pre .1 .1 .1 .0)
+branch-loop-holds : (t : ℕ) → branch-lts.Need-loop-holds (branch-calls t) (branch-at t) branch.Post branch-Inv-loop branch-μ-loop
+branch-loop-holds t c = (omega arith, λ e. refl, λ e. absurd (omega (arith, e)))
 
-branch-side-requires : (t : ℕ) → branch-lts.Need-side-requires (branch-calls t) (branch-at t) branch.Post
-branch-side-requires t c κs = let s = c .before .before .before .before .before .before .before .before in
+branch-below-requires : (t : ℕ) → branch-lts.Need-below-requires (branch-calls t) (branch-at t) branch.Post branch-Inv-loop branch-μ-loop
+branch-below-requires t c κs = let s = c .before .before .before .before .before .before .before .before in (omega (arith, s .pre .1 .0 .places .few, s .pre .1 .1 .0 .0, s .pre .1 .1 .1 .0), s .pre .1 .1 .1 .0)
+
+branch-side-requires : (t : ℕ) → branch-lts.Need-side-requires (branch-calls t) (branch-at t) branch.Post branch-Inv-loop branch-μ-loop
+branch-side-requires t c κs = let s = c .before .before .before .before .before .before .before .before .before in
     let left : c .below .result .todo ≡ s .args .stage .todo - 1 = ap (λ (x : Stage). x .todo) (c .below .ensures) in
     (omega (arith, left, s .pre .0, s .pre .1 .1 .1 .0), (s .pre .1 .0, (omega (arith, s .pre .1 .1 .0 .0, s .pre .1 .1 .1 .0), omega (arith, left, s .pre .1 .1 .0 .0), s .pre .1 .1 .0 .1, s .pre .1 .1 .0 .2)))
 
-branch-enum-known-one : (t : ℕ) → branch-lts.Need-enum-known-one (branch-calls t) (branch-at t) branch.Post
+branch-enum-known-one : (t : ℕ) → branch-lts.Need-enum-known-one (branch-calls t) (branch-at t) branch.Post branch-Inv-loop branch-μ-loop
 branch-enum-known-one t c = search needs
 
-branch-below-requires-2 : (t : ℕ) → branch-lts.Need-below-requires-2 (branch-calls t) (branch-at t) branch.Post
-branch-below-requires-2 t c κs = let s = c .before .before .before .before .before .before .before .before .before .before .before .before in (omega (arith, s .pre .1 .0 .places .few, s .pre .1 .1 .0 .0, s .pre .1 .1 .1 .0), s .pre .1 .1 .1 .0)
+branch-returns : (t : ℕ) → branch-lts.Need-returns (branch-calls t) (branch-at t) branch.Post branch-Inv-loop branch-μ-loop
+branch-returns t c = λ F base lent shows.
+    let e = c .before .before .before .before in
+    let l = e .before .before .loop in
+    let s = e .before .before .before .before .before .before .before .before .before .before in
+    let a = s .args in
+    left-both F (a .stage .truths) (a .g .now) (a .part .now) (a .stage .at) base (a .stage .todo) (s .pre .1 .1 .1 .1) (s .pre .1 .1 .1 .2) (a .kinds .now) (a .left .now) (a .right .now) (a .most .now) lent (λ none. omega (arith, none, s .pre .1 .1 .1 .0)) (s .pre .1 .1 .0 .0) _ refl (room t s) (l .at) _ (l .inv .2 (c .if1 .taken) F base lent shows)
+    (rw (e .before .below .ensures, c .if1 .taken, c .before .before .one .given .1) at (e .side .ensures F base lent shows))
 
-branch-side-requires-2 : (t : ℕ) → branch-lts.Need-side-requires-2 (branch-calls t) (branch-at t) branch.Post
-branch-side-requires-2 t c κs = let s = c .before .before .before .before .before .before .before .before .before .before .before .before .before in
-    let left : c .below2 .result .todo ≡ s .args .stage .todo - 1 = ap (λ (x : Stage). x .todo) (c .below2 .ensures) in
-    (omega (arith, left, s .pre .0, s .pre .1 .1 .1 .0), (s .pre .1 .0, (omega (arith, s .pre .1 .1 .0 .0, s .pre .1 .1 .1 .0), omega (arith, left, s .pre .1 .1 .0 .0), s .pre .1 .1 .0 .1, s .pre .1 .1 .0 .2)))
+branch-loop-less : (t : ℕ) → branch-lts.Need-loop-less (branch-calls t) (branch-at t) branch.Post branch-Inv-loop branch-μ-loop
+branch-loop-less t c = omega (arith, c .if1 .left)
 
-branch-enum-known-one-2 : (t : ℕ) → branch-lts.Need-enum-known-one-2 (branch-calls t) (branch-at t) branch.Post
+branch-loop-again : (t : ℕ) → branch-lts.Need-loop-again (branch-calls t) (branch-at t) branch.Post branch-Inv-loop branch-μ-loop
+branch-loop-again t c = let e = c .before .before .before .before in
+    let l = e .before .before .loop in
+    let one : l .truth ≡ 1 = omega (arith, l .inv .0, c .if1 .left) in
+    (omega arith, λ none. absurd (omega (arith, none)), λ z F base lent shows. rw (e .before .below .ensures, one, l .inv .1 one, c .before .before .one .given .1) at (e .side .ensures F base lent shows))
+
+branch-enum-known-one-2 : (t : ℕ) → branch-lts.Need-enum-known-one-2 (branch-calls t) (branch-at t) branch.Post branch-Inv-loop branch-μ-loop
 branch-enum-known-one-2 t c = search needs
 
-branch-returns : (t : ℕ) → branch-lts.Need-returns (branch-calls t) (branch-at t) branch.Post
-branch-returns t c = λ F base lent shows.
-    let one = c .before .before .before .one .given in
-    let e = c .before .before .before .before .before in
-    let s = e .before .before .before .before .before .before .before .before .before in
-    let a = s .args in
-    left-both F (a .stage .truths) (a .g .now) (a .part .now) (a .stage .at) base (a .stage .todo) (s .pre .1 .1 .1 .1) (s .pre .1 .1 .1 .2) (a .kinds .now) (a .left .now) (a .right .now) (a .most .now) lent (λ none. omega (arith, none, s .pre .1 .1 .1 .0)) (s .pre .1 .1 .0 .0) _ refl (room t s) (one .0 .0) _
-    (rw (e .before .below .ensures, one .1) at (e .side .ensures F base lent shows))
-    (rw (c .before .below2 .ensures) at (c .side2 .ensures F base lent shows))
-
-branch-returns-2 : (t : ℕ) → branch-lts.Need-returns-2 (branch-calls t) (branch-at t) branch.Post
+branch-returns-2 : (t : ℕ) → branch-lts.Need-returns-2 (branch-calls t) (branch-at t) branch.Post branch-Inv-loop branch-μ-loop
 branch-returns-2 t c = λ F base lent shows.
     let e = c .before .before .before in
-    let s = e .before .before .before .before .before .before .before .before .before in
+    let l = e .before .before .loop in
+    let s = e .before .before .before .before .before .before .before .before .before .before in
     let a = s .args in
-    left-bad F (a .stage .truths) (a .g .now) (a .part .now) (a .stage .at) base (a .stage .todo) (s .pre .1 .1 .1 .1) (s .pre .1 .1 .1 .2) (a .kinds .now) (a .left .now) (a .right .now) (a .most .now) lent (λ none. omega (arith, none, s .pre .1 .1 .1 .0)) (s .pre .1 .1 .0 .0) _ refl (room t s) _ _
+    left-refused F (a .stage .truths) (a .g .now) (a .part .now) (a .stage .at) base (a .stage .todo) (s .pre .1 .1 .1 .1) (s .pre .1 .1 .1 .2) (a .kinds .now) (a .left .now) (a .right .now) (a .most .now) lent (λ none. omega (arith, none, s .pre .1 .1 .1 .0)) (s .pre .1 .1 .0 .0) _ refl (room t s) (l .truth) (l .at) _ _ (eqb (l .truth) 1) (l .inv .0) (λ z. rw z) (λ z. rw z) (l .inv .1) (λ z. l .inv .2 z F base lent shows)
     (rw (e .before .below .ensures, c .before .one2 .given .1) at (e .side .ensures F base lent shows))
 
 side-shared-slice-read-decide : (t : ℕ) → side-lts.Need-shared-slice-read-decide (side-calls t) (side-at t) side.Post
@@ -191,6 +209,6 @@ tree-returns-6 : (t : ℕ) → tree-lts.Need-returns-6 (tree-calls t) (tree-at t
 tree-returns-6 t c = c .branch .ensures
 
 pub +branch+side+tree-spec : {M : Type 1} → statement M
-+branch+side+tree-spec = close μ-branch μ-side μ-tree (λ t. branch-lts.spec (branch-calls t) (branch-at t) branch.Post (branch-sub-place t) (branch-add-below t) (branch-below-requires t) (branch-side-requires t) (branch-enum-known-one t) (branch-below-requires-2 t) (branch-side-requires-2 t) (branch-enum-known-one-2 t) (branch-returns t) (branch-returns-2 t))
++branch+side+tree-spec = close μ-branch μ-side μ-tree (λ t. branch-lts.spec (branch-calls t) (branch-at t) branch.Post branch-Inv-loop branch-μ-loop (branch-sub-place t) (branch-add-at t) (branch-loop-holds t) (branch-below-requires t) (branch-side-requires t) (branch-enum-known-one t) (branch-returns t) (branch-loop-less t) (branch-loop-again t) (branch-enum-known-one-2 t) (branch-returns-2 t))
     (λ t. side-lts.spec (side-calls t) (side-at t) side.Post (side-shared-slice-read-decide t) (side-shared-slice-read-decide-2 t) (side-mul-decide t) (side-shared-slice-copy-out-decide t) (side-decide-requires t) (side-tree-requires t) (side-returns t))
     (λ t. tree-lts.spec (tree-calls t) (tree-at t) tree.Post (tree-returns t) (tree-shared-slice-read-node t) (tree-sub-decided t) (tree-false-leaf-requires t) (tree-returns-2 t) (tree-cycle-requires t) (tree-returns-3 t) (tree-returns-4 t) (tree-returns-5 t) (tree-branch-requires t) (tree-returns-6 t))
