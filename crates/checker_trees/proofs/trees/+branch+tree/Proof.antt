@@ -1,4 +1,4 @@
--- A node, its branch and its halves, which call each other: by the places left, and which of the three it is.
+-- A node and its branch, which call each other: by the places left, and which of the two it is.
 use mathlib.Core.Bool.{true, false}
 use Prim.Native.Nat.{_+_, _-_, ℕ, _≤_, _<_}
 use mathlib.Core.Path.{_≡_, refl, sym, ap, _∙_}
@@ -22,40 +22,28 @@ use borrow.Fn.Kinds.{In}
 use borrow.Fn.PlainCycle.{Measures, is, falls, and}
 use Rattle.checker_trees.proofs.trees.branch.Reads as branch
 use Rattle.checker_trees.proofs.trees.branch.Kinds as branch-kinds
-use Rattle.checker_trees.proofs.trees.+branch+side+tree.Lts-branch as branch-lts
-use Rattle.checker_trees.proofs.trees.side.Reads as side
-use Rattle.checker_trees.proofs.trees.side.Kinds as side-kinds
-use Rattle.checker_trees.proofs.trees.+branch+side+tree.Lts-side as side-lts
+use Rattle.checker_trees.proofs.trees.+branch+tree.Lts-branch as branch-lts
 use Rattle.checker_trees.proofs.trees.tree.Reads as tree
 use Rattle.checker_trees.proofs.trees.tree.Kinds as tree-kinds
-use Rattle.checker_trees.proofs.trees.+branch+side+tree.Lts-tree as tree-lts
+use Rattle.checker_trees.proofs.trees.+branch+tree.Lts-tree as tree-lts
 use Rattle.checker_nodes.proofs.cycle.Reads as cycle-reads
 use Rattle.checker_nodes.proofs.false_leaf.Reads as false-leaf-reads
 use Rattle.checker_trees.proofs.trees.below.Reads as below-reads
 use Rattle.facts.proofs.decide.Reads as decide-reads
-use Rattle.checker_trees.proofs.trees.+branch+side+tree.{statement}
-use Rattle.checker_trees.proofs.trees.+branch+side+tree.Tie.{close}
+use Rattle.checker_trees.proofs.trees.+branch+tree.{statement}
+use Rattle.checker_trees.proofs.trees.+branch+tree.Tie.{close}
 
 abbrev μ-branch : Measures 7 branch-kinds.ps ℕ
-μ-branch κs a = let u = a .1 .1 .1 .1 .1 .1 .1 .0 .todo in u + u + u
-
-abbrev μ-side : Measures 7 side-kinds.ps ℕ
-μ-side κs a = let u = a .1 .1 .1 .1 .1 .1 .1 .0 .stage .todo in u + u + u + 2
+μ-branch κs a = let u = a .1 .1 .1 .1 .1 .1 .1 .0 .todo in u + u
 
 abbrev μ-tree : Measures 7 tree-kinds.ps ℕ
-μ-tree κs a = let u = a .1 .1 .1 .1 .1 .1 .1 .0 .todo in u + u + u + 1
+μ-tree κs a = let u = a .1 .1 .1 .1 .1 .1 .1 .0 .todo in u + u + 1
 
 abbrev branch-at : ℕ → In 7 branch-kinds.ps
 branch-at t = and 7 branch-kinds.ps (is 7 branch-kinds.ps μ-branch t) branch.Pre
 
 abbrev branch-below : ℕ → In 7 branch-kinds.ps
 branch-below t = and 7 branch-kinds.ps (falls 7 branch-kinds.ps _<_ μ-branch t) branch.Pre
-
-abbrev side-at : ℕ → In 7 side-kinds.ps
-side-at t = and 7 side-kinds.ps (is 7 side-kinds.ps μ-side t) side.Pre
-
-abbrev side-below : ℕ → In 7 side-kinds.ps
-side-below t = and 7 side-kinds.ps (falls 7 side-kinds.ps _<_ μ-side t) side.Pre
 
 abbrev tree-at : ℕ → In 7 tree-kinds.ps
 tree-at t = and 7 tree-kinds.ps (is 7 tree-kinds.ps μ-tree t) tree.Pre
@@ -64,10 +52,7 @@ abbrev tree-below : ℕ → In 7 tree-kinds.ps
 tree-below t = and 7 tree-kinds.ps (falls 7 tree-kinds.ps _<_ μ-tree t) tree.Pre
 
 abbrev branch-calls : ℕ → branch-lts.Claims
-branch-calls t = (below-reads.Asked, below-reads.Learnt, side-below t, side.Post)
-
-abbrev side-calls : ℕ → side-lts.Claims
-side-calls t = (decide-reads.Asked, decide-reads.Learnt, tree-below t, tree.Post)
+branch-calls t = (below-reads.Asked, below-reads.Learnt, decide-reads.Asked, decide-reads.Learnt, tree-below t, tree.Post)
 
 abbrev tree-calls : ℕ → tree-lts.Claims
 tree-calls t = (false-leaf-reads.Asked, false-leaf-reads.Learnt, cycle-reads.Asked, cycle-reads.Learnt, branch-below t, branch.Post)
@@ -98,10 +83,38 @@ branch-loop-holds t c = (omega arith, λ e. refl, λ e. absurd (omega (arith, e)
 branch-below-requires : (t : ℕ) → branch-lts.Need-below-requires (branch-calls t) (branch-at t) branch.Post branch-Inv-loop branch-μ-loop
 branch-below-requires t c κs = let s = c .before .before .before .before .before .before .before .before in (omega (arith, s .pre .1 .0 .places .few, s .pre .1 .1 .0 .0, s .pre .1 .1 .1 .0), s .pre .1 .1 .1 .0)
 
-branch-side-requires : (t : ℕ) → branch-lts.Need-side-requires (branch-calls t) (branch-at t) branch.Post branch-Inv-loop branch-μ-loop
-branch-side-requires t c κs = let s = c .before .before .before .before .before .before .before .before .before in
-    let left : c .below .result .todo ≡ s .args .stage .todo - 1 = ap (λ (x : Stage). x .todo) (c .below .ensures) in
-    (omega (arith, left, s .pre .0, s .pre .1 .1 .1 .0), (s .pre .1 .0, (omega (arith, s .pre .1 .1 .0 .0, s .pre .1 .1 .1 .0), omega (arith, left, s .pre .1 .1 .0 .0), s .pre .1 .1 .0 .1, s .pre .1 .1 .0 .2)))
+branch-shared-slice-read-decide : (t : ℕ) → branch-lts.Need-shared-slice-read-decide (branch-calls t) (branch-at t) branch.Post branch-Inv-loop branch-μ-loop
+branch-shared-slice-read-decide t c = let s = c .before .before .before .before .before .before .before .before .before .before in omega (arith, s .pre .1 .1 .0 .0, s .pre .1 .1 .1 .0)
+
+branch-shared-slice-read-decide-2 : (t : ℕ) → branch-lts.Need-shared-slice-read-decide-2 (branch-calls t) (branch-at t) branch.Post branch-Inv-loop branch-μ-loop
+branch-shared-slice-read-decide-2 t c = let s = c .before .before .before .before .before .before .before .before .before .before .before in omega (arith, s .pre .1 .0 .places .rights, s .pre .1 .1 .0 .0, s .pre .1 .1 .1 .0)
+
+branch-mul-decide : (t : ℕ) → branch-lts.Need-mul-decide (branch-calls t) (branch-at t) branch.Post branch-Inv-loop branch-μ-loop
+branch-mul-decide t c = let s = c .before .before .before .before .before .before .before .before .before .before .before in omega (arith, s .pre .1 .0 .places .few)
+
+branch-shared-slice-copy-out-decide : (t : ℕ) → branch-lts.Need-shared-slice-copy-out-decide (branch-calls t) (branch-at t) branch.Post branch-Inv-loop branch-μ-loop
+branch-shared-slice-copy-out-decide t c = let s = c .before .before .before .before .before .before .before .before .before .before .before in omega (arith, s .pre .1 .0 .places .mosts, s .pre .1 .1 .0 .0, s .pre .1 .1 .1 .0)
+
+branch-decide-requires : (t : ℕ) → branch-lts.Need-decide-requires (branch-calls t) (branch-at t) branch.Post branch-Inv-loop branch-μ-loop
+branch-decide-requires t c κs = let s = c .before .before .before .before .before .before .before .before .before .before .before .before in
+    let p = s .pre .1 .0 .places in
+    let l = s .args .left .now in
+    let d = length l - s .args .stage .todo in
+    let i : d < length l = omega (arith, s .pre .1 .1 .0 .0, s .pre .1 .1 .1 .0) in
+    (below-at mostVertices l d (p .left-below) i, below-at mostVertices (s .args .right .now) d (p .right-below) (omega (arith, p .rights, i)), s .pre .1 .1 .0 .1)
+
+-- the facts of the half
+facts-are : (t : ℕ) (c : branch-lts.After-decide (branch-calls t) (branch-at t) branch.Post branch-Inv-loop branch-μ-loop) → let a = c .before .before .before .before .before .before .before .before .before .before .before .before .before .args in c .decide .result ≡ decide (a .g .now) (placeAt (a .left .now) (a .right .now) (a .most .now) (length (a .left .now) - a .stage .todo)) (eqb (c .before .before .before .before .before .loop .truth) 1)
+facts-are t c = c .decide .ensures ∙ rw (toZ-ofZ (record { sfits = c .before .decide-arg .given }))
+
+branch-tree-requires : (t : ℕ) → branch-lts.Need-tree-requires (branch-calls t) (branch-at t) branch.Post branch-Inv-loop branch-μ-loop
+branch-tree-requires t c κs = let s = c .before .before .before .before .before .before .before .before .before .before .before .before .before .before in
+    let a = s .args in
+    let p = s .pre .1 .0 .places in
+    let d = length (a .left .now) - a .stage .todo in
+    let e = facts-are t (c .before) in
+    let left : c .before .before .before .before .before .below .result .todo ≡ a .stage .todo - 1 = ap (λ (x : Stage). x .todo) (c .before .before .before .before .before .below .ensures) in
+    (omega (arith, left, s .pre .0, s .pre .1 .1 .1 .0), (s .pre .1 .0, (omega (arith, left, s .pre .1 .1 .0 .0), rw e (tighten-sized mostVertices (a .g .now) _ _ _ (s .pre .1 .1 .0 .1)), rw e (decide-within mostVertices (a .g .now) (placeAt (a .left .now) (a .right .now) (a .most .now) d) (eqb (c .before .before .before .before .before .before .loop .truth) 1) (s .pre .1 .1 .0 .2) (p .small d (omega (arith, p .mosts, s .pre .1 .1 .0 .0, s .pre .1 .1 .1 .0)))))))
 
 branch-enum-known-one : (t : ℕ) → branch-lts.Need-enum-known-one (branch-calls t) (branch-at t) branch.Post branch-Inv-loop branch-μ-loop
 branch-enum-known-one t c = search needs
@@ -109,20 +122,20 @@ branch-enum-known-one t c = search needs
 branch-returns : (t : ℕ) → branch-lts.Need-returns (branch-calls t) (branch-at t) branch.Post branch-Inv-loop branch-μ-loop
 branch-returns t c = λ F base lent shows.
     let e = c .before .before .before .before in
-    let l = e .before .before .loop in
-    let s = e .before .before .before .before .before .before .before .before .before .before in
+    let l = e .before .before .before .before .before .before .before .loop in
+    let s = e .before .before .before .before .before .before .before .before .before .before .before .before .before .before .before in
     let a = s .args in
     left-both F (a .stage .truths) (a .g .now) (a .part .now) (a .stage .at) base (a .stage .todo) (s .pre .1 .1 .1 .1) (s .pre .1 .1 .1 .2) (a .kinds .now) (a .left .now) (a .right .now) (a .most .now) lent (λ none. omega (arith, none, s .pre .1 .1 .1 .0)) (s .pre .1 .1 .0 .0) _ refl (room t s) (l .at) _ (l .inv .2 (c .if1 .taken) F base lent shows)
-    (rw (e .before .below .ensures, c .if1 .taken, c .before .before .one .given .1) at (e .side .ensures F base lent shows))
+    (rw (facts-are t (e .before .before), e .before .before .before .before .before .before .below .ensures, c .if1 .taken, c .before .before .one .given .1) at (e .tree .ensures F base lent shows))
 
 branch-loop-less : (t : ℕ) → branch-lts.Need-loop-less (branch-calls t) (branch-at t) branch.Post branch-Inv-loop branch-μ-loop
 branch-loop-less t c = omega (arith, c .if1 .left)
 
 branch-loop-again : (t : ℕ) → branch-lts.Need-loop-again (branch-calls t) (branch-at t) branch.Post branch-Inv-loop branch-μ-loop
 branch-loop-again t c = let e = c .before .before .before .before in
-    let l = e .before .before .loop in
+    let l = e .before .before .before .before .before .before .before .loop in
     let one : l .truth ≡ 1 = omega (arith, l .inv .0, c .if1 .left) in
-    (omega arith, λ none. absurd (omega (arith, none)), λ z F base lent shows. rw (e .before .below .ensures, one, l .inv .1 one, c .before .before .one .given .1) at (e .side .ensures F base lent shows))
+    (omega arith, λ none. absurd (omega (arith, none)), λ z F base lent shows. rw (facts-are t (e .before .before), e .before .before .before .before .before .before .below .ensures, one, l .inv .1 one, c .before .before .one .given .1) at (e .tree .ensures F base lent shows))
 
 branch-enum-known-one-2 : (t : ℕ) → branch-lts.Need-enum-known-one-2 (branch-calls t) (branch-at t) branch.Post branch-Inv-loop branch-μ-loop
 branch-enum-known-one-2 t c = search needs
@@ -130,42 +143,11 @@ branch-enum-known-one-2 t c = search needs
 branch-returns-2 : (t : ℕ) → branch-lts.Need-returns-2 (branch-calls t) (branch-at t) branch.Post branch-Inv-loop branch-μ-loop
 branch-returns-2 t c = λ F base lent shows.
     let e = c .before .before .before in
-    let l = e .before .before .loop in
-    let s = e .before .before .before .before .before .before .before .before .before .before in
+    let l = e .before .before .before .before .before .before .before .loop in
+    let s = e .before .before .before .before .before .before .before .before .before .before .before .before .before .before .before in
     let a = s .args in
     left-refused F (a .stage .truths) (a .g .now) (a .part .now) (a .stage .at) base (a .stage .todo) (s .pre .1 .1 .1 .1) (s .pre .1 .1 .1 .2) (a .kinds .now) (a .left .now) (a .right .now) (a .most .now) lent (λ none. omega (arith, none, s .pre .1 .1 .1 .0)) (s .pre .1 .1 .0 .0) _ refl (room t s) (l .truth) (l .at) _ _ (eqb (l .truth) 1) (l .inv .0) (λ z. rw z) (λ z. rw z) (l .inv .1) (λ z. l .inv .2 z F base lent shows)
-    (rw (e .before .below .ensures, c .before .one2 .given .1) at (e .side .ensures F base lent shows))
-
-side-shared-slice-read-decide : (t : ℕ) → side-lts.Need-shared-slice-read-decide (side-calls t) (side-at t) side.Post
-side-shared-slice-read-decide t c = search needs
-
-side-shared-slice-read-decide-2 : (t : ℕ) → side-lts.Need-shared-slice-read-decide-2 (side-calls t) (side-at t) side.Post
-side-shared-slice-read-decide-2 t c = let s = c .before .before .before .before .before .before .before in omega (arith, s .pre .1 .0 .places .rights, s .pre .1 .1 .0)
-
-side-mul-decide : (t : ℕ) → side-lts.Need-mul-decide (side-calls t) (side-at t) side.Post
-side-mul-decide t c = let s = c .before .before .before .before .before .before .before in omega (arith, s .pre .1 .0 .places .few, s .pre .1 .1 .0)
-
-side-shared-slice-copy-out-decide : (t : ℕ) → side-lts.Need-shared-slice-copy-out-decide (side-calls t) (side-at t) side.Post
-side-shared-slice-copy-out-decide t c = let s = c .before .before .before .before .before .before .before in omega (arith, s .pre .1 .0 .places .mosts, s .pre .1 .1 .0)
-
-side-decide-requires : (t : ℕ) → side-lts.Need-decide-requires (side-calls t) (side-at t) side.Post
-side-decide-requires t c κs = let s = c .before .before .before .before .before .before .before .before in
-    let p = s .pre .1 .0 .places in
-    (below-at mostVertices (s .args .left .now) (s .args .h .place) (p .left-below) (s .pre .1 .1 .0), below-at mostVertices (s .args .right .now) (s .args .h .place) (p .right-below) (omega (arith, p .rights, s .pre .1 .1 .0)), s .pre .1 .1 .2)
-
--- the facts that are handed on
-facts-are : (t : ℕ) (c : side-lts.After-decide (side-calls t) (side-at t) side.Post) → let a = c .before .before .before .before .before .before .before .before .before .args in c .decide .result ≡ decide (a .g .now) (placeAt (a .left .now) (a .right .now) (a .most .now) (a .h .place)) (a .h .truth)
-facts-are t c = c .decide .ensures ∙ rw (toZ-ofZ (record { sfits = c .before .decide-arg .given }))
-
-side-tree-requires : (t : ℕ) → side-lts.Need-tree-requires (side-calls t) (side-at t) side.Post
-side-tree-requires t c κs = let s = c .before .before .before .before .before .before .before .before .before .before .before in
-    let a = s .args in
-    let p = s .pre .1 .0 .places in
-    let e = facts-are t (c .before .before) in
-    (omega (arith, s .pre .0), (s .pre .1 .0, (s .pre .1 .1 .1, rw e (tighten-sized mostVertices (a .g .now) _ _ _ (s .pre .1 .1 .2)), rw e (decide-within mostVertices (a .g .now) (placeAt (a .left .now) (a .right .now) (a .most .now) (a .h .place)) (a .h .truth) (s .pre .1 .1 .3) (p .small (a .h .place) (omega (arith, p .mosts, s .pre .1 .1 .0)))))))
-
-side-returns : (t : ℕ) → side-lts.Need-returns (side-calls t) (side-at t) side.Post
-side-returns t c = λ F base lent shows. rw (facts-are t (c .before .before .before)) at (c .tree .ensures F base lent shows)
+    (rw (facts-are t (e .before .before), e .before .before .before .before .before .before .below .ensures, c .before .one2 .given .1) at (e .tree .ensures F base lent shows))
 
 tree-returns : (t : ℕ) → tree-lts.Need-returns (tree-calls t) (tree-at t) tree.Post
 tree-returns t c = λ F base lent shows. let a = c .before .before .before .before .before .before .before .args in left-end F (a .stage .truths) (a .g .now) (a .part .now) (a .stage .at) base (a .stage .todo) (c .if1 .taken)
@@ -208,7 +190,6 @@ tree-branch-requires t c κs = let s = c .before .before .before .before .before
 tree-returns-6 : (t : ℕ) → tree-lts.Need-returns-6 (tree-calls t) (tree-at t) tree.Post
 tree-returns-6 t c = c .branch .ensures
 
-pub +branch+side+tree-spec : {M : Type 1} → statement M
-+branch+side+tree-spec = close μ-branch μ-side μ-tree (λ t. branch-lts.spec (branch-calls t) (branch-at t) branch.Post branch-Inv-loop branch-μ-loop (branch-sub-place t) (branch-add-at t) (branch-loop-holds t) (branch-below-requires t) (branch-side-requires t) (branch-enum-known-one t) (branch-returns t) (branch-loop-less t) (branch-loop-again t) (branch-enum-known-one-2 t) (branch-returns-2 t))
-    (λ t. side-lts.spec (side-calls t) (side-at t) side.Post (side-shared-slice-read-decide t) (side-shared-slice-read-decide-2 t) (side-mul-decide t) (side-shared-slice-copy-out-decide t) (side-decide-requires t) (side-tree-requires t) (side-returns t))
+pub +branch+tree-spec : {M : Type 1} → statement M
++branch+tree-spec = close μ-branch μ-tree (λ t. branch-lts.spec (branch-calls t) (branch-at t) branch.Post branch-Inv-loop branch-μ-loop (branch-sub-place t) (branch-add-at t) (branch-loop-holds t) (branch-below-requires t) (branch-shared-slice-read-decide t) (branch-shared-slice-read-decide-2 t) (branch-mul-decide t) (branch-shared-slice-copy-out-decide t) (branch-decide-requires t) (branch-tree-requires t) (branch-enum-known-one t) (branch-returns t) (branch-loop-less t) (branch-loop-again t) (branch-enum-known-one-2 t) (branch-returns-2 t))
     (λ t. tree-lts.spec (tree-calls t) (tree-at t) tree.Post (tree-returns t) (tree-shared-slice-read-node t) (tree-sub-decided t) (tree-false-leaf-requires t) (tree-returns-2 t) (tree-cycle-requires t) (tree-returns-3 t) (tree-returns-4 t) (tree-returns-5 t) (tree-branch-requires t) (tree-returns-6 t))
