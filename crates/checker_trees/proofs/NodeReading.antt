@@ -93,11 +93,17 @@ module _ (F : Formula) (truths : List ℕ) (g : Grid) (part : List ℕ) (at base
             let first : x ≡ check mostVertices F (drop (suc d) ps) (map bit (take d truths) ++ (true ∷ [])) (decide g (getD ps d nowhere) true) (suc (base + at)) (drop (at + 1) part) = rw next at (e₁ ∙ below 1 (base + (at + 1)) (drop (at + 1) part)) in
             rw first (sym split)
 
-        pub left-bad : (number p : ℕ) → refused number (base + p) ≡ checkLeft F (todo - 1) (set truths d 1) (decide g (placeAt ls rs ms d) true) (base + (at + 1)) (drop (at + 1) part) → refused number (base + p) ≡ Here
+        left-bad : (number p : ℕ) → refused number (base + p) ≡ checkLeft F (todo - 1) (set truths d 1) (decide g (placeAt ls rs ms d) true) (base + (at + 1)) (drop (at + 1) part) → refused number (base + p) ≡ Here
         left-bad number p x = after-first (refused number (base + p)) x
 
         pub left-both : (p : ℕ) (r : Checked) → good (base + p, drop p part) ≡ checkLeft F (todo - 1) (set truths d 1) (decide g (placeAt ls rs ms d) true) (base + (at + 1)) (drop (at + 1) part) → r ≡ checkLeft F (todo - 1) (set truths d 0) (decide g (placeAt ls rs ms d) false) (base + p) (drop p part) → r ≡ Here
         left-both p r x y = y ∙ below 0 (base + p) (drop p part) ∙ after-first (good (base + p, drop p part)) x
+
+        -- a refusal of either half, whichever it is
+        pub left-refused : (v o number p : ℕ) (b : Bool) → v ≤ 1 → (v ≡ 1 → b ≡ true) → (v ≡ 0 → b ≡ false) → (v ≡ 1 → o ≡ at + 1) → (v ≡ 0 → good (base + o, drop o part) ≡ checkLeft F (todo - 1) (set truths d 1) (decide g (placeAt ls rs ms d) true) (base + (at + 1)) (drop (at + 1) part)) → refused number (base + p) ≡ checkLeft F (todo - 1) (set truths d v) (decide g (placeAt ls rs ms d) b) (base + o) (drop o part) → refused number (base + p) ≡ Here
+        left-refused zero o number p b bound isTrue isFalse first second x = left-both o (refused number (base + p)) (second refl) (rw (isFalse refl) at x)
+        left-refused (suc zero) o number p b bound isTrue isFalse first second x = left-bad number p (rw (first refl, isTrue refl) at x)
+        left-refused (suc (suc v)) o number p b bound isTrue isFalse first second x = absurd (omega (arith, bound))
 
 -- with every place left the check is that of the whole tree
 pub left-all : (F : Formula) (todo : ℕ) (truths : List ℕ) (at : ℕ) (bs : List ℕ) → todo ≡ length (places (F .program)) → checkLeft F todo truths (start mostVertices (F .ranges)) at bs ≡ checkTree mostVertices F at bs

@@ -12,23 +12,15 @@ ghost use Rattle.page_meaning.specs.Limits.{mostVertices, mostDecisions};
 ghost use Rattle.page_walks.specs.Grid.{farN};
 ghost use Rattle.page_walks.specs.Sizes.{Sized, AllWithin};
 ghost use Rattle.page_formulas.specs.Formulas.{Formula};
-ghost use Rattle.page_sheets.specs.Facts.{decide};
 ghost use Rattle.checker_nodes.specs.Nodes.{outcomeOf};
 ghost use Rattle.checker_trees.specs.Checks.{checkLeft};
-ghost use Rattle.program.specs.Lent.{Flagged, Lent, Lendable, placeAt};
+ghost use Rattle.program.specs.Lent.{Flagged, Lent, Lendable};
 
 // Where the check of a tree stands: its position in the part that is lent, the decisions so far, and how many places are left.
 pub struct Stage {
     pub at: usize,
     pub truths: [u8; PLACES],
     pub todo: usize,
-}
-
-// Half of a branch: the stage that it leads to, the place that it decides, and how.
-pub struct Half {
-    pub stage: Stage,
-    pub place: usize,
-    pub truth: bool,
 }
 
 // The stage after one decision more.
@@ -45,28 +37,7 @@ fn below(stage: Stage, at: usize, decided: usize, truth: u8) -> Stage
     }
 }
 
-// What one more fact comes to. Of the three that call each other this one alone keeps a grid.
-fn side(
-    kinds: &[u8],
-    left: &[u8],
-    right: &[u8],
-    most: &[i64],
-    shown: &[bool],
-    part: &[u8],
-    g: &[[i64; VERTICES]; VERTICES],
-    h: Half,
-) -> Past
-    requires { ⌜ Lendable (now kinds) (now left) (now right) (now most) (now shown) ⌝ }
-    requires { ⌜ (h .place < length (now left)) × (h .stage .todo ≤ length (now left)) × Sized mostVertices (now g) × AllWithin farN mostVertices (now g) ⌝ }
-    ensures { λ r. ⌜ ((F : Formula) (base : ℕ) → Lent (F .program) (now (kinds .entry)) (now (left .entry)) (now (right .entry)) (now (most .entry)) → Flagged (now (shown .entry)) (F .ranges) → outcomeOf base (now (part .entry)) r ≡ checkLeft F (h .stage .todo) (h .stage .truths) (decide (now (g .entry)) (placeAt (now (left .entry)) (now (right .entry)) (now (most .entry)) (h .place)) (h .truth)) (base + h .stage .at) (drop (h .stage .at) (now (part .entry)))) ⌝ }
-{
-    let place = h.place;
-    let next = decide(g, left[place], right[place], most[place], h.truth);
-    let stage = h.stage;
-    tree(kinds, left, right, most, shown, part, &next, stage)
-}
-
-// Node 3, which takes the first place left as true, then as false.
+// Node 3, which takes the first place left as true, then as false. One call serves both, so that a level keeps one grid.
 fn branch(
     kinds: &[u8],
     left: &[u8],
@@ -83,24 +54,24 @@ fn branch(
     ensures { λ r. ⌜ ((F : Formula) (base : ℕ) → Lent (F .program) (now (kinds .entry)) (now (left .entry)) (now (right .entry)) (now (most .entry)) → Flagged (now (shown .entry)) (F .ranges) → outcomeOf base (now (part .entry)) r ≡ checkLeft F (stage .todo) (stage .truths) (now (g .entry)) (base + stage .at) (drop (stage .at) (now (part .entry)))) ⌝ }
 {
     let place = left.len() - stage.todo;
-    let yes = below(stage, stage.at + 1, place, 1);
-    let first = Half {
-        stage: yes,
-        place,
-        truth: true,
-    };
-    let one = side(kinds, left, right, most, shown, part, g, first);
-    match one {
-        Past::Good(p) => {
-            let no = below(stage, p, place, 0);
-            let second = Half {
-                stage: no,
-                place,
-                truth: false,
-            };
-            side(kinds, left, right, most, shown, part, g, second)
+    let mut at = stage.at + 1;
+    let mut truth: u8 = 1;
+    loop {
+        let next = below(stage, at, place, truth);
+        let facts = decide(g, left[place], right[place], most[place], truth == 1);
+        let one = tree(kinds, left, right, most, shown, part, &facts, next);
+        match one {
+            Past::Good(p) => {
+                if truth == 0 {
+                    return Past::Good(p);
+                }
+                at = p;
+                truth = 0;
+            }
+            Past::Refused(number, p) => {
+                return Past::Refused(number, p);
+            }
         }
-        Past::Refused(number, p) => Past::Refused(number, p),
     }
 }
 
