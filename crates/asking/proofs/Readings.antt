@@ -4,6 +4,7 @@ use mathlib.Core.Path.{_≡_, sym, ap, subst, _∙_}
 use mathlib.Core.Bool.{_||_}
 use mathlib.Core.List.{List}
 use lib.Dec.{eqb}
+use Rattle.page_meaning.specs.Limits.{limits}
 use Rattle.page_numbers.specs.Outcome.{refused}
 use Rattle.page_questions.specs.Guarantees.{Accepted}
 use Rattle.question.specs.Held.{Held, HeldIf, Reads, questionOf, meantBy}
@@ -21,4 +22,4 @@ module _ (a : ℕ) (s : List ℕ) (r : Reading) (h : Reads r (askedOf a s)) wher
 
   -- a question that was read
   pub asked-holds : r .answer ≡ Good → Held (r .question) × Accepted (questionOf (r .question))
-  asked-holds e = (subst (λ x. HeldIf x (r .question)) e (h .held), subst (Holds Accepted) (asked-means Good e) (cond-holds Accepted (eqb a 1 || eqb a 2) (readOf s) (refused 20 0) (λ t. read-holds s) (λ t. tt)))
+  asked-holds e = (subst (λ x. HeldIf x (r .question)) e (h .held), subst (Holds Accepted) (asked-means Good e) (cond-holds Accepted (eqb a 1 || eqb a 2) (readOf s) (refused 20 0) (λ t. read-holds limits s) (λ t. tt)))

@@ -7,11 +7,12 @@ use mathlib.Core.List.{List}
 use native.Mathlib.Omega.{arith}
 use lib.ListN.{length}
 use lib.Dec.{eqb, leb}
+use Rattle.page_meaning.specs.Limits.{limits}
 use Rattle.page_numbers.specs.Outcome.{good, refused}
 use Rattle.page_questions.specs.Reader.{Read, readOf}
 use Rattle.page_questions.proofs.Refusals.{refused-bounds}
 use Rattle.page_sheets.specs.Sheet.{Verdict, Answer, sheetOf}
-use Rattle.page_sheets.specs.Answers.{Written, Done, judge, verdictOf, checkOf, writeFor, writeOf}
+use Rattle.page_sheets.specs.Answers.{Written, Done, judge, verdictUnder, verdictOf, checkOf, writeFor, writeUnder, writeOf}
 use Rattle.page_sheets.proofs.Numbers.{Given, check-given}
 use Rattle.capi.specs.Returns.{answer, writing, done}
 
@@ -40,10 +41,10 @@ asked-above P a s f k = go (eqb a 1 || eqb a 2)
     go false = k (refused 20 0) (λ n p e. subst (λ m. 1 ≤ m) (ap code e) (omega arith))
 
 pub verdict-zero : (a : ℕ) (s : List ℕ) → answer (verdictOf a s) .number ≡ 0 → Said (verdictOf a s)
-unfolding verdictOf
-verdict-zero a s = said (verdictOf a s) (asked-above Above a s (judge a) each)
+unfolding verdictUnder
+verdict-zero a s = said (verdictOf a s) (asked-above Above a s (judge limits a) each)
   where
-    each : (r : Read) → ((n p : ℕ) → r ≡ refused n p → 1 ≤ n) → Above (judge a r)
+    each : (r : Read) → ((n p : ℕ) → r ≡ refused n p → 1 ≤ n) → Above (judge limits a r)
     each (good q) h = tt
     each (refused n p) h = h n p refl
 
@@ -76,9 +77,9 @@ either-above x y h k true = h
 either-above x y h k false = k
 
 pub write-zero : (a : ℕ) (s room : List ℕ) → done (writeOf a s room) .returned .number ≡ 0 → WroteOne (writeOf a s room .answer)
-unfolding writeOf
-write-zero a s room = wrote-one (writeOf a s room .answer) (asked-above (λ (d : Done). AboveOne (d .answer)) a s (writeFor a room) each)
+unfolding writeUnder
+write-zero a s room = wrote-one (writeOf a s room .answer) (asked-above (λ (d : Done). AboveOne (d .answer)) a s (writeFor limits a room) each)
   where
-    each : (r : Read) → ((n p : ℕ) → r ≡ refused n p → 1 ≤ n) → AboveOne (writeFor a room r .answer)
+    each : (r : Read) → ((n p : ℕ) → r ≡ refused n p → 1 ≤ n) → AboveOne (writeFor limits a room r .answer)
     each (good q) h = either-above _ _ tt (omega arith) (leb (length (sheetOf q a)) (length room))
     each (refused n p) h = h n p refl

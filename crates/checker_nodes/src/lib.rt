@@ -1,4 +1,5 @@
 // FORMAT 8.2: the nodes of a case tree, one at a time, and what the checker says of each.
+use grid::Added;
 use limits::PLACES;
 use limits::VERTICES;
 use truth::truths::Truth;
@@ -11,6 +12,7 @@ ghost use lib.IntN.{pos};
 ghost use lib.Signed.{ltZ};
 ghost use Rattle.page_meaning.specs.Limits.{mostVertices, mostDecisions};
 ghost use Rattle.page_walks.specs.Walk.{Below, closed};
+ghost use Rattle.grid.specs.Facts.{withFact};
 ghost use Rattle.page_walks.specs.Grid.{weight, farN};
 ghost use Rattle.page_walks.specs.Sizes.{Sized, AllWithin};
 ghost use Rattle.truth.specs.Cells.{bit};
@@ -74,20 +76,26 @@ pub fn false_leaf(
 }
 
 // Following the edges and back to the first gives a sum below zero.
-fn below_zero(g: &[[i64; VERTICES]; VERTICES], vertices: &[u8]) -> bool
+fn below_zero(g: &[[i64; VERTICES]; VERTICES], e: Added, vertices: &[u8]) -> bool
     requires { ⌜ (0 < length (now vertices)) × (length (now vertices) ≤ mostVertices) × Below mostVertices (now vertices) ⌝ }
-    requires { ⌜ Sized mostVertices (now g) × AllWithin farN mostVertices (now g) ⌝ }
-    ensures { λ r. ⌜ r ≡ ltZ (closed (weight (now (g .entry))) (now (vertices .entry))) (pos 0) ⌝ }
+    requires { ⌜ Sized mostVertices (now g) × AllWithin farN mostVertices (withFact (now g) e) × (e .from < mostVertices) × (e .to < mostVertices) ⌝ }
+    ensures { λ r. ⌜ r ≡ ltZ (closed (weight (withFact (now (g .entry)) e)) (now (vertices .entry))) (pos 0) ⌝ }
 {
-    let sum = grid::closing(g, vertices);
+    let sum = grid::closing(g, e, vertices);
     sum < 0
 }
 
-// Node 2: count 1 to 17, vertices.
-pub fn cycle(shown: &[bool], g: &[[i64; VERTICES]; VERTICES], part: &[u8], at: usize) -> Past
+// Node 2: a count from 1 on, and so many vertices. The last fact of the way down stands beside the grid.
+pub fn cycle(
+    shown: &[bool],
+    g: &[[i64; VERTICES]; VERTICES],
+    e: Added,
+    part: &[u8],
+    at: usize,
+) -> Past
     requires { ⌜ (length (now shown) ≤ mostVertices) × (at < length (now part)) ⌝ }
-    requires { ⌜ Sized mostVertices (now g) × AllWithin farN mostVertices (now g) ⌝ }
-    ensures { λ r. ⌜ ((F : Formula) (base : ℕ) → Flagged (now (shown .entry)) (F .ranges) → outcomeOf base (now (part .entry)) r ≡ cycleNode mostVertices F (now (g .entry)) (base + at) (drop (at + 1) (now (part .entry)))) ⌝ }
+    requires { ⌜ Sized mostVertices (now g) × AllWithin farN mostVertices (withFact (now g) e) × (e .from < mostVertices) × (e .to < mostVertices) ⌝ }
+    ensures { λ r. ⌜ ((F : Formula) (base : ℕ) → Flagged (now (shown .entry)) (F .ranges) → outcomeOf base (now (part .entry)) r ≡ cycleNode mostVertices F (withFact (now (g .entry)) e) (base + at) (drop (at + 1) (now (part .entry)))) ⌝ }
 {
     let from = at + 1;
     if part.len() <= from {
@@ -105,7 +113,7 @@ pub fn cycle(shown: &[bool], g: &[[i64; VERTICES]; VERTICES], part: &[u8], at: u
     let found = named(shown, bytes, count);
     match found {
         Naming::Good => {
-            if below_zero(g, &bytes[..count]) {
+            if below_zero(g, e, &bytes[..count]) {
                 return Past::Good(first + count);
             }
             Past::Refused(15, at)

@@ -1,1 +1,2 @@
 pub mod NodeReading
+pub mod NoFact

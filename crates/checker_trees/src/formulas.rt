@@ -3,6 +3,8 @@ use crate::trees::Stage;
 use crate::trees::tree;
 use checker_nodes::Past;
 use facts::start;
+use grid::Added;
+use grid::FAR;
 use limits::PLACES;
 use program::types::Outline;
 ghost use mathlib.Core.Path.{_≡_};
@@ -13,7 +15,7 @@ ghost use Rattle.page_sheets.specs.Tree.{checkTree};
 ghost use Rattle.program.specs.Compiled.{Compiled, Fine, formulaOf};
 ghost use Rattle.checker_nodes.specs.Nodes.{outcomeOf};
 
-// A formula's tree at the start of the part that is lent: no place is decided yet.
+// A formula's tree at the start of the part that is lent: no place is decided yet, and the fact of none is a missing edge's.
 pub fn formula_tree(
     kinds: &[u8],
     left: &[u8],
@@ -36,6 +38,11 @@ pub fn formula_tree(
         at: 0,
         truths,
         todo: places,
+        fact: Added {
+            from: 0,
+            to: 0,
+            weight: FAR,
+        },
     };
     let used = &kinds[..o.count];
     let a = &left[..places];

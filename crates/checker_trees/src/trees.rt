@@ -2,31 +2,34 @@
 use checker_nodes::Past;
 use checker_nodes::cycle;
 use checker_nodes::false_leaf;
-use facts::decide;
+use facts::added;
+use grid::Added;
+use grid::tighten;
 use limits::PLACES;
 use limits::VERTICES;
 ghost use mathlib.Core.Path.{_≡_};
 ghost use Prim.Native.Nat.{ℕ, _+_, _-_, _≤_, _<_};
 ghost use lib.ListN.{length, getD, drop, set};
-ghost use Rattle.page_meaning.specs.Limits.{mostVertices, mostDecisions};
-ghost use Rattle.page_walks.specs.Grid.{farN};
-ghost use Rattle.page_walks.specs.Sizes.{Sized, AllWithin};
+ghost use Rattle.page_meaning.specs.Limits.{mostDecisions};
 ghost use Rattle.page_formulas.specs.Formulas.{Formula};
 ghost use Rattle.checker_nodes.specs.Nodes.{outcomeOf};
-ghost use Rattle.checker_trees.specs.Checks.{checkLeft};
+ghost use Rattle.grid.specs.Facts.{withFact};
+ghost use Rattle.checker_trees.specs.Checks.{checkLeft, Checkable};
 ghost use Rattle.program.specs.Lent.{Flagged, Lent, Lendable};
 
-// Where the check of a tree stands: its position in the part that is lent, the decisions so far, and how many places are left.
+// Where the check of a tree stands: its position in the part that is lent, the decisions so far, how many places are left, and the fact of
+// the last decision. It isn't in the grid yet: only a node 3 needs the grid with it.
 pub struct Stage {
     pub at: usize,
     pub truths: [u8; PLACES],
     pub todo: usize,
+    pub fact: Added,
 }
 
 // The stage after one decision more.
-fn below(stage: Stage, at: usize, decided: usize, truth: u8) -> Stage
+fn below(stage: Stage, at: usize, decided: usize, truth: u8, fact: Added) -> Stage
     requires { ⌜ (decided < mostDecisions) × (0 < stage .todo) ⌝ }
-    ensures { λ r. ⌜ r ≡ record { at = at; truths = set (stage .truths) decided truth; todo = stage .todo - 1 } ⌝ }
+    ensures { λ r. ⌜ r ≡ record { at = at; truths = set (stage .truths) decided truth; todo = stage .todo - 1; fact = fact } ⌝ }
 {
     let mut truths = stage.truths;
     truths[decided] = truth;
@@ -34,10 +37,11 @@ fn below(stage: Stage, at: usize, decided: usize, truth: u8) -> Stage
         at,
         truths,
         todo: stage.todo - 1,
+        fact,
     }
 }
 
-// Node 3, which takes the first place left as true, then as false. One call serves both, so that a level keeps one grid.
+// Node 3, which takes the first place left as true, then as false: the grid with the last fact serves both.
 fn branch(
     kinds: &[u8],
     left: &[u8],
@@ -49,16 +53,18 @@ fn branch(
     stage: Stage,
 ) -> Past
     requires { ⌜ Lendable (now kinds) (now left) (now right) (now most) (now shown) ⌝ }
-    requires { ⌜ (stage .todo ≤ length (now left)) × Sized mostVertices (now g) × AllWithin farN mostVertices (now g) ⌝ }
+    requires { ⌜ (stage .todo ≤ length (now left)) × Checkable (now g) (stage .fact) ⌝ }
     requires { ⌜ (0 < stage .todo) × (stage .at < length (now part)) × (getD (now part) (stage .at) 0 ≡ 3) ⌝ }
-    ensures { λ r. ⌜ ((F : Formula) (base : ℕ) → Lent (F .program) (now (kinds .entry)) (now (left .entry)) (now (right .entry)) (now (most .entry)) → Flagged (now (shown .entry)) (F .ranges) → outcomeOf base (now (part .entry)) r ≡ checkLeft F (stage .todo) (stage .truths) (now (g .entry)) (base + stage .at) (drop (stage .at) (now (part .entry)))) ⌝ }
+    ensures { λ r. ⌜ ((F : Formula) (base : ℕ) → Lent (F .program) (now (kinds .entry)) (now (left .entry)) (now (right .entry)) (now (most .entry)) → Flagged (now (shown .entry)) (F .ranges) → outcomeOf base (now (part .entry)) r ≡ checkLeft F (stage .todo) (stage .truths) (withFact (now (g .entry)) (stage .fact)) (base + stage .at) (drop (stage .at) (now (part .entry)))) ⌝ }
 {
     let place = left.len() - stage.todo;
+    let last = stage.fact;
+    let facts = tighten(g, last.from, last.to, last.weight);
     let mut at = stage.at + 1;
     let mut truth: u8 = 1;
     loop {
-        let next = below(stage, at, place, truth);
-        let facts = decide(g, left[place], right[place], most[place], truth == 1);
+        let fact = added(left[place], right[place], most[place], truth == 1);
+        let next = below(stage, at, place, truth, fact);
         let one = tree(kinds, left, right, most, shown, part, &facts, next);
         match one {
             Past::Good(p) => {
@@ -87,8 +93,8 @@ pub fn tree(
     stage: Stage,
 ) -> Past
     requires { ⌜ Lendable (now kinds) (now left) (now right) (now most) (now shown) ⌝ }
-    requires { ⌜ (stage .todo ≤ length (now left)) × Sized mostVertices (now g) × AllWithin farN mostVertices (now g) ⌝ }
-    ensures { λ r. ⌜ ((F : Formula) (base : ℕ) → Lent (F .program) (now (kinds .entry)) (now (left .entry)) (now (right .entry)) (now (most .entry)) → Flagged (now (shown .entry)) (F .ranges) → outcomeOf base (now (part .entry)) r ≡ checkLeft F (stage .todo) (stage .truths) (now (g .entry)) (base + stage .at) (drop (stage .at) (now (part .entry)))) ⌝ }
+    requires { ⌜ (stage .todo ≤ length (now left)) × Checkable (now g) (stage .fact) ⌝ }
+    ensures { λ r. ⌜ ((F : Formula) (base : ℕ) → Lent (F .program) (now (kinds .entry)) (now (left .entry)) (now (right .entry)) (now (most .entry)) → Flagged (now (shown .entry)) (F .ranges) → outcomeOf base (now (part .entry)) r ≡ checkLeft F (stage .todo) (stage .truths) (withFact (now (g .entry)) (stage .fact)) (base + stage .at) (drop (stage .at) (now (part .entry)))) ⌝ }
 {
     let truths = stage.truths;
     let at = stage.at;
@@ -102,7 +108,7 @@ pub fn tree(
         return false_leaf(kinds, truths, decided, part, at);
     }
     if node == 2 {
-        return cycle(shown, g, part, at);
+        return cycle(shown, g, stage.fact, part, at);
     }
     if node != 3 {
         return Past::Refused(14, at);

@@ -11,6 +11,7 @@ use question::types::Question;
 ghost use mathlib.Core.Path.{_≡_};
 ghost use Prim.Native.Nat.{_≤_};
 ghost use lib.ListN.{length};
+ghost use Rattle.page_meaning.specs.Limits.{mostVertices};
 ghost use Rattle.question.specs.Held.{Held, questionOf};
 ghost use Rattle.page_questions.specs.Guarantees.{Accepted};
 ghost use Rattle.page_formulas.specs.Formulas.{formulas};
@@ -20,7 +21,7 @@ ghost use Rattle.outcome.specs.Answers.{judgedOf};
 // Each tree's check is lent the part of the sheet after the last one's end.
 pub fn yes_sheet(q: Question, asked: u8, sheet: &[u8]) -> Judged
     requires { ⌜ Held q × Accepted (questionOf q) × (7 ≤ length (now sheet)) ⌝ }
-    ensures { λ r. ⌜ judgedOf r ≡ checkYes (formulas (questionOf q) asked) (now (sheet .entry)) ⌝ }
+    ensures { λ r. ⌜ judgedOf r ≡ checkYes mostVertices (formulas (questionOf q) asked) (now (sheet .entry)) ⌝ }
 {
     let n = formula_count(q, asked);
     let mut at: usize = 7;

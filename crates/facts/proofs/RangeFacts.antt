@@ -15,9 +15,9 @@ use Rattle.page_numbers.proofs.Bridge.{ints, neg-up, neg-dn}
 use Rattle.page_numbers.proofs.Machine.{diff}
 use Rattle.page_meaning.specs.Contents.{Range}
 use Rattle.page_meaning.specs.Limits.{mostVertices}
-use Rattle.page_walks.specs.Grid.{Grid, farN, blank}
-use Rattle.page_walks.specs.Sizes.{least-weight, Bounded, AllWithin}
-use Rattle.page_walks.proofs.Grids.{tighten-keeps, blank-far}
+use Rattle.page_walks.specs.Grid.{Grid, farN, tighten, blank}
+use Rattle.page_walks.specs.Sizes.{least-weight, Bounded, Sized, AllWithin}
+use Rattle.page_walks.proofs.Grids.{tighten-keeps, tighten-sized, blank-far}
 use Rattle.page_formulas.specs.Vertices.{Ranges, isSome}
 use Rattle.page_sheets.specs.Facts.{confine, confineAll}
 use Rattle.program.specs.Compiled.{Spanned, SmallSpans}
@@ -33,6 +33,9 @@ wider z b = record { high = omega (arith, b .high); low = omega (arith, b .low) 
 
 pub confine-within : (N : ℕ) (g : Grid) (v : ℕ) (r : Range) → AllWithin farN N g → Bounded least-weight (r .lo) → Bounded least-weight (r .hi) → AllWithin farN N (confine g v (some r))
 confine-within N g v r w a b = record { entry = λ u t hu ht. tighten-keeps (Bounded farN) _ v 0 (negℤ (r .lo)) u t (tighten-keeps (Bounded farN) g 0 v (r .hi) u t (w .entry u t hu ht) (λ e f. wider (r .hi) b)) (λ e f. record { high = omega (arith, neg-up (r .lo), a .low); low = omega (arith, neg-dn (r .lo), a .high) }) }
+
+pub confine-sized : (N : ℕ) (g : Grid) (v : ℕ) (r : Range) → Sized N g → Sized N (confine g v (some r))
+confine-sized N g v r s = tighten-sized N (tighten g 0 v (r .hi)) v 0 (negℤ (r .lo)) (tighten-sized N g 0 v (r .hi) s)
 
 within : (rs : Ranges) (i : ℕ) (r : Range) → getD rs i none ≡ some r → i < length rs
 within [] i r e = absurd (subst (λ o. T (isSome o)) (sym e) tt)

@@ -1,8 +1,8 @@
 // How large a question may be, and what follows from that for its formulas. Every limit of the code stands here once, as those of the
 // definitions stand in page_meaning's Limits and page_formulas' Costs.
-pub const TABLES: usize = 4;
+pub const TABLES: usize = 6;
 
-pub const COLUMNS: usize = 8;
+pub const COLUMNS: usize = 12;
 
 pub const TOKENS: usize = 16;
 

@@ -111,12 +111,17 @@ module _ (q : Question) (a : Accepted q) where
   proper-by : {F : Formula} {c : Cost} → length (F .ranges) < mostVertices → Every SmallRange (F .ranges) → Every Nonempty (F .ranges) → Measured (F .ranges) (F .program) c → c .places ≤ mostDecisions → c .instructions ≤ mostInstructions → Proper F
   proper-by v s n x p i = record { vertices = v; ranges-small = s; ranges-some = n; places-small = x .sized .small; few-places = omega (arith, x .sized .few); short = omega (arith, x .sized .short); formed = x .pushes .on 0 }
 
+  -- one vertex a column of each row
+  ranges-short : (d : Condition) (ms : List Mode) (l : Line) → length (formula q d ms l .ranges) ≤ 2 * length (columns q)
+  ranges-short d ms (single p ps) = omega (arith, length-map (columns q) some)
+  ranges-short d ms (double p ps) = omega (arith, length-append (firstRanges (columns q)) (hiddenRanges (q .visible) 0 (columns q)), length-map (columns q) some, hidden-length (q .visible) 0 (columns q))
+
   line-proper : (d : Condition) (ms : List Mode) → Sound q d ms → (l : Line) → Fits l → Proper (formula q d ms l)
   line-proper d ms o (single p ps) f =
-      proper-by (omega (arith, length-map (columns q) some, a .fewColumns)) (first-every SmallRange tt range-size (columns q) (a .ranges)) (first-every Nonempty tt some-range (columns q) (a .ranges))
+      proper-by (omega (arith, ranges-short d ms (single p ps), a .fewColumns)) (first-every SmallRange tt range-size (columns q) (a .ranges)) (first-every Nonempty tt some-range (columns q) (a .ranges))
       (parts-fit (firstRanges (columns q)) d ms o (λ i. firstSight) (λ i. first-in-one q) p ps) (f .places) (f .instructions)
   line-proper d ms o (double p ps) f =
-      proper-by (omega (arith, length-append (firstRanges (columns q)) (hiddenRanges (q .visible) 0 (columns q)), length-map (columns q) some, hidden-length (q .visible) 0 (columns q), a .fewColumns))
+      proper-by (omega (arith, ranges-short d ms (double p ps), a .fewColumns))
       (both-every SmallRange tt range-size (q .visible) (columns q) (columns q) (a .ranges) (a .ranges)) (both-every Nonempty tt some-range (q .visible) (columns q) (columns q) (a .ranges) (a .ranges))
       (parts-fit (bothRanges q) d ms o (λ i. cond i (secondSight q) firstSight) both-small p ps) (f .places) (f .instructions)
 
@@ -138,12 +143,19 @@ module _ (q : Question) (a : Accepted q) where
   contexts-sound (delete d) f o u = record { doable = u; condition = o; modes = tt }
   contexts-sound (modify d ms) f o u = record { doable = u; condition = o .0; modes = o .1 }
 
-  pub formulas-proper : (asked : ℕ) → Every Proper (formulas q asked)
-  formulas-proper asked = go (eqb asked 1)
+  -- what every line of the table makes is so of every formula
+  formulas-are : (P : Formula → Type 0) → ((d : Condition) (ms : List Mode) → Sound q d ms → (l : Line) → Fits l → P (formula q d ms l)) → (asked : ℕ) → Every P (formulas q asked)
+  formulas-are P line asked = go (eqb asked 1)
     where
-      all : (b : Bool) → Every Proper (formulasBy (formula q) q (q .change) b)
-      all = every-formula Proper (formula q) (Sound q) line-proper q (q .change) (contexts-sound (q .change) (a .wellFormed) (a .change) (contexts-doable q (q .change) (fine .change)))
+      all : (b : Bool) → Every P (formulasBy (formula q) q (q .change) b)
+      all = every-formula P (formula q) (Sound q) line q (q .change) (contexts-sound (q .change) (a .wellFormed) (a .change) (contexts-doable q (q .change) (fine .change)))
 
-      go : (b : Bool) → Every Proper (cond b (irrelevance q (q .change)) (computability q (q .change)))
+      go : (b : Bool) → Every P (cond b (irrelevance q (q .change)) (computability q (q .change)))
       go true = all true
       go false = all false
+
+  pub formulas-proper : (asked : ℕ) → Every Proper (formulas q asked)
+  formulas-proper = formulas-are Proper line-proper
+
+  pub formulas-short : (asked : ℕ) → Every (λ F. length (F .ranges) ≤ 2 * length (columns q)) (formulas q asked)
+  formulas-short = formulas-are (λ F. length (F .ranges) ≤ 2 * length (columns q)) (λ d ms o l f. ranges-short d ms l)

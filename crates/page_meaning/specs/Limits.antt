@@ -1,13 +1,21 @@
 -- How large a question may be. Every limit stands here once; facts are proved over them.
-use Prim.Native.Nat.{ℕ, _+_, _*_}
+use Prim.Native.Nat.{ℕ, suc, _+_, _*_}
 
 -- FORMAT 1.1: tables
 abbrev pub mostTables : ℕ
-mostTables = 4
+mostTables = 6
 
 -- FORMAT 1.1: columns, of all tables together
 abbrev pub mostColumns : ℕ
-mostColumns = 8
+mostColumns = 12
+
+-- those two together. What is read, written and checked is defined under any limits, so that it can be compared under two (FORMAT 10)
+pub record Limits : Type 0 where
+  pub tables : ℕ
+  pub columns : ℕ
+
+abbrev pub limits : Limits
+limits = record { tables = mostTables; columns = mostColumns }
 
 -- FORMAT 2.1: tokens of a condition
 abbrev pub mostTokens : ℕ
@@ -22,8 +30,11 @@ abbrev pub mostRows : ℕ
 mostRows = 4
 
 -- FORMAT 5.4: zero, and a column of either row
+abbrev pub verticesFor : Limits → ℕ
+verticesFor l = suc (2 * l .columns)
+
 abbrev pub mostVertices : ℕ
-mostVertices = 1 + 2 * mostColumns
+mostVertices = verticesFor limits
 
 -- FORMAT 7.3: six conditions, two range tests and one comparison of rows, two places a comparison
 abbrev pub mostDecisions : ℕ

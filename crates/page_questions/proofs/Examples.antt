@@ -10,7 +10,7 @@ use Rattle.page_meaning.specs.Limits.{mostColumns}
 use Rattle.page_meaning.specs.Condition.{compare, equal, atLeast, both}
 use Rattle.page_meaning.specs.Condition as C
 use Rattle.page_questions.specs.Layout.{total, visibleFrom}
-use Rattle.page_questions.specs.Reader.{many, byte, int, columnAt, comparisonAt, tokenAt, conditionAt, rowAt, insertAt, ending, fromChange, fromCondition, fromVisible, fromColumns, fromWidths, fromChanged, fromKind, fromTables, fromVersion, readOf}
+use Rattle.page_questions.specs.Reader.{many, byte, int, columnAt, comparisonAt, tokenAt, conditionAt, rowAt, insertAt, ending, fromChange, fromCondition, fromVisible, fromColumns, fromWidths, fromChanged, fromKind, fromTables, fromVersion, readUnder, readOf}
 use Rattle.page_questions.specs.Fields.{mark, version, tableCount, changeKind, changedTable, columnCount, lo, visible, hi, someVisible, tokenCount, token, op, constant, seventh, operands, column, rightColumn, finish, rowCount, inserted, end, sizes, followed, runs, conditionFields, insertFields, questionFields, fieldsOf}
 
 -- insert (3,9) into KEY, in 73 bytes
@@ -47,5 +47,5 @@ fields = refl
 
 -- FORMAT 9.4: the last byte cut off; one byte added; 31 for V
 pub refusals : (readOf (take 72 caseA) ≡ refused 1 69) × (readOf (caseA ++ (0 ∷ [])) ≡ refused 9 73) × (readOf (set caseA 69 31) ≡ refused 5 69)
-unfolding readOf fromVersion fromTables fromKind fromChanged fromWidths fromColumns fromVisible fromCondition fromChange ending insertAt rowAt conditionAt tokenAt comparisonAt columnAt int byte many total visibleFrom int32 le32
+unfolding readUnder fromVersion fromTables fromKind fromChanged fromWidths fromColumns fromVisible fromCondition fromChange ending insertAt rowAt conditionAt tokenAt comparisonAt columnAt int byte many total visibleFrom int32 le32
 refusals = (refl, refl, refl)

@@ -11,11 +11,11 @@ use lib.Seq.{length-take-le, getD-take}
 use lib.IntN.{ℤ, pos, negℤ}
 use Rattle.page_numbers.specs.Outcome.{Outcome, good, refused}
 use Rattle.page_numbers.specs.Bytes.{le32, int32}
-use Rattle.page_meaning.specs.Limits.{mostTables, mostColumns, mostTokens, mostComparisons, mostRows}
+use Rattle.page_meaning.specs.Limits.{mostTables, mostColumns, mostTokens, mostComparisons, mostRows, limits}
 use Rattle.page_meaning.specs.Contents.{Range, Mode, Question}
 use Rattle.page_questions.specs.Layout.{Column, rangesOf, total, firstOf, widthOf, tableOf, visibleFrom, questionFrom}
 use Rattle.page_questions.specs.Lengths.{longestCondition, longest, NoneLonger, OneAsLong, FirstBytesTell}
-use Rattle.page_questions.specs.Reader.{At, many, byte, int, upTo, none, largest, constantAt, widthAt, columnAt, comparisonAt, tokenAt, conditionAt, valueAt, rowAt, insertAt, deleteAt, noColumnAt, modeAt, modifyAt, changeAt, ending, fromChange, fromCondition, fromVisible, fromColumns, fromWidths, fromChanged, fromKind, fromTables, fromVersion, marked, readOf}
+use Rattle.page_questions.specs.Reader.{At, many, byte, int, upTo, none, largest, constantAt, widthAt, columnAt, comparisonAt, tokenAt, conditionAt, valueAt, rowAt, insertAt, deleteAt, noColumnAt, modeAt, modifyAt, changeAt, ending, fromChange, fromCondition, fromVisible, fromColumns, fromWidths, fromChanged, fromKind, fromTables, fromVersion, marked, readUnder, readOf}
 use Rattle.page_questions.specs.Guarantees.{Every}
 use Rattle.page_questions.proofs.Conditions.{every-snoc}
 use Rattle.page_questions.proofs.Invariants.{Holds, cond-holds, Between}
@@ -147,37 +147,37 @@ module _ (s t : List ℕ) (same : Same s t) where
   abbrev Widths : ℕ → ℕ → List ℕ → ℕ → Type 0
   Widths tables k ws q = Every (λ w. 1 ≤ w) ws × (total ws ≤ mostColumns) × (length ws + k ≡ tables) × (q + k ≡ 8 + tables)
 
-  width-twin : (tables k : ℕ) (ws : List ℕ) (p : ℕ) → tables ≤ mostTables → Widths tables (suc k) ws p → Twin (λ a. Widths tables k (ws ++ (a .value ∷ [])) (a .next)) (widthAt s ws p) (widthAt t ws p)
+  width-twin : (tables k : ℕ) (ws : List ℕ) (p : ℕ) → tables ≤ mostTables → Widths tables (suc k) ws p → Twin (λ a. Widths tables k (ws ++ (a .value ∷ [])) (a .next)) (widthAt mostColumns s ws p) (widthAt mostColumns t ws p)
   width-twin tables k ws p four h =
       twin-so (λ a. Between 1 (upTo (mostColumns - total ws)) (a .value) × (a .next ≡ p + 1)) (λ a. Widths tables k (ws ++ (a .value ∷ [])) (a .next)) _ _
       (λ a g. (every-snoc (λ w. 1 ≤ w) ws (a .value) (h .0) (g .0 .0), omega (arith, total-snoc ws (a .value), h .1, g .0 .1), omega (arith, length-append ws (a .value ∷ []), h .2), omega (arith, g .1, h .3)))
       (byte-twin s t same 4 1 (upTo (mostColumns - total ws)) p (omega (arith, h .3)))
 
-  tables-on : Twin Short (fromTables s 5) (fromTables t 5)
+  tables-on : Twin Short (fromTables limits s 5) (fromTables limits t 5)
   unfolding fromTables fromKind fromChanged fromWidths total
   tables-on =
       twin-then (λ a. Between 1 (upTo mostTables) (a .value) × (a .next ≡ 6)) _ (byte s 4 1 (upTo mostTables) 5) (byte t 4 1 (upTo mostTables) 5) _ _ (byte-twin s t same 4 1 (upTo mostTables) 5 (omega arith)) λ n d.
       twin-then (λ a. Between 1 (upTo 3) (a .value) × (a .next ≡ n .next + 1)) _ (byte s 4 1 (upTo 3) (n .next)) (byte t 4 1 (upTo 3) (n .next)) _ _ (byte-twin s t same 4 1 (upTo 3) (n .next) (omega (arith, d .1))) λ kind e.
       twin-then (λ a. Between 0 (n .value) (a .value) × (a .next ≡ kind .next + 1)) _ (byte s 4 0 (n .value) (kind .next)) (byte t 4 0 (n .value) (kind .next)) _ _ (byte-twin s t same 4 0 (n .value) (kind .next) (omega (arith, d .1, e .1))) λ changed f.
-      twin-then (λ a. Widths (n .value) 0 (a .value) (a .next)) _ (many (widthAt s) (n .value) [] (changed .next)) (many (widthAt t) (n .value) [] (changed .next)) _ _
-      (twin-many (widthAt s) (widthAt t) (Widths (n .value)) (λ k ws p h. width-twin (n .value) k ws p (omega (arith, d .0 .1)) h) (n .value) [] (changed .next) (tt, omega arith, omega arith, omega (arith, d .1, e .1, f .1))) λ ws g.
+      twin-then (λ a. Widths (n .value) 0 (a .value) (a .next)) _ (many (widthAt mostColumns s) (n .value) [] (changed .next)) (many (widthAt mostColumns t) (n .value) [] (changed .next)) _ _
+      (twin-many (widthAt mostColumns s) (widthAt mostColumns t) (Widths (n .value)) (λ k ws p h. width-twin (n .value) k ws p (omega (arith, d .0 .1)) h) (n .value) [] (changed .next) (tt, omega arith, omega arith, omega (arith, d .1, e .1, f .1))) λ ws g.
       columns-on (kind .value) (changed .value) (ws .value) (g .0) (g .1) (omega (arith, g .2, d .0 .0)) (ws .next) (omega (arith, g .2, g .3)) (omega (arith, g .2, d .0 .1))
 
   marked-same : marked s ≡ marked t
   marked-same = rw (same .entry 0 (omega arith), same .entry 1 (omega arith), same .entry 2 (omega arith)) refl
 
-  version-twin : Twin Short (fromVersion s) (fromVersion t)
+  version-twin : Twin Short (fromVersion limits s) (fromVersion limits t)
   unfolding fromVersion
   version-twin =
-      subst (λ b. Twin Short (fromVersion s) (cond b (cond (eqb (getD t 3 0 + 256 * getD t 4 0) 1) (fromTables t 5) (refused 3 3)) (refused 1 3))) (same .whole 5 (omega arith))
-      (subst (λ v. Twin Short (fromVersion s) (cond (leb 5 (length s)) (cond (eqb v 1) (fromTables t 5) (refused 3 3)) (refused 1 3))) (ap₂ (λ x y. x + 256 * y) (same .entry 3 (omega arith)) (same .entry 4 (omega arith)))
+      subst (λ b. Twin Short (fromVersion limits s) (cond b (cond (eqb (getD t 3 0 + 256 * getD t 4 0) 1) (fromTables limits t 5) (refused 3 3)) (refused 1 3))) (same .whole 5 (omega arith))
+      (subst (λ v. Twin Short (fromVersion limits s) (cond (leb 5 (length s)) (cond (eqb v 1) (fromTables limits t 5) (refused 3 3)) (refused 1 3))) (ap₂ (λ x y. x + 256 * y) (same .entry 3 (omega arith)) (same .entry 4 (omega arith)))
       (twin-cond Short (leb 5 (length s)) _ _ _ _ (λ e. twin-cond Short (eqb (getD s 3 0 + 256 * getD s 4 0) 1) _ _ _ _ (λ d. tables-on) (λ d. (refl, tt))) (λ e. (refl, tt))))
 
   read-twin : Twin Short (readOf s) (readOf t)
-  unfolding readOf
+  unfolding readUnder
   read-twin =
-      subst (λ b. Twin Short (readOf s) (cond b (cond (marked t) (fromVersion t) (refused 2 0)) (refused 1 0))) (same .whole 3 (omega arith))
-      (subst (λ m. Twin Short (readOf s) (cond (leb 3 (length s)) (cond m (fromVersion t) (refused 2 0)) (refused 1 0))) marked-same
+      subst (λ b. Twin Short (readOf s) (cond b (cond (marked t) (fromVersion limits t) (refused 2 0)) (refused 1 0))) (same .whole 3 (omega arith))
+      (subst (λ m. Twin Short (readOf s) (cond (leb 3 (length s)) (cond m (fromVersion limits t) (refused 2 0)) (refused 1 0))) marked-same
       (twin-cond Short (leb 3 (length s)) _ _ _ _ (λ e. twin-cond Short (marked s) _ _ _ _ (λ d. version-twin) (λ d. (refl, tt))) (λ e. (refl, tt))))
 
 -- ---- the theorems
@@ -216,7 +216,7 @@ good-one (good q) h = (q, refl)
 good-one (refused n p) h = absurd h
 
 fullest-read : T (isGood (readOf fullest))
-unfolding int32 le32 total visibleFrom many byte int columnAt comparisonAt tokenAt conditionAt rowAt insertAt ending fromChange fromCondition fromVisible fromColumns fromWidths fromChanged fromKind fromTables fromVersion readOf
+unfolding int32 le32 total visibleFrom many byte int columnAt comparisonAt tokenAt conditionAt rowAt insertAt ending fromChange fromCondition fromVisible fromColumns fromWidths fromChanged fromKind fromTables fromVersion readUnder
 fullest-read = tt
 
 pub one-as-long : OneAsLong

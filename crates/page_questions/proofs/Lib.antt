@@ -8,6 +8,7 @@ pub mod Layouts
 pub mod Conditions
 pub mod Changes
 pub mod Guarantees
+pub mod RaisedLimits
 pub mod StepFaults
 pub mod PieceFaults
 pub mod QuestionFaults

@@ -20,7 +20,7 @@ use Rattle.page_questions.specs.Faults.{asSaid, within}
 use Rattle.page_questions.proofs.StepFaults.{judge, at, Agrees, agrees-then, agrees-many, field-then, test-first, byte-is}
 
 module _ (s : List ℕ) where
-  pub width-agrees : (ws : List ℕ) (p : ℕ) → Agrees s p (widthFields s ws p) (R.widthAt s ws p)
+  pub width-agrees : (ws : List ℕ) (p : ℕ) → Agrees s p (widthFields s ws p) (R.widthAt mostColumns s ws p)
   unfolding judge sizes asSaid
   width-agrees ws p = byte-is s 4 1 (upTo (mostColumns - total ws)) p
 

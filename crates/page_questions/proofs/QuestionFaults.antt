@@ -9,12 +9,12 @@ use lib.Dec.{ltb, leb, eqb}
 use lib.ListN.{length, getD}
 use Rattle.page_numbers.specs.Outcome.{Outcome, good, refused}
 use Rattle.page_numbers.specs.Bytes.{int32}
-use Rattle.page_meaning.specs.Limits.{mostTables, mostRows}
+use Rattle.page_meaning.specs.Limits.{mostTables, mostRows, limits, mostColumns}
 use Rattle.page_meaning.specs.Condition.{Condition}
 use Rattle.page_meaning.specs.Contents.{Range, Mode, keep, become, shift, insert, delete, modify, Question}
 use Rattle.page_questions.specs.Layout.{Column, rangesOf, total, firstOf, tableOf, visibleFrom, questionFrom}
 use Rattle.page_questions.specs.Reader as R
-use Rattle.page_questions.specs.Reader.{At, found, andThen, int, upTo, none, readOf}
+use Rattle.page_questions.specs.Reader.{At, found, andThen, int, upTo, none, readUnder, readOf}
 use Rattle.page_questions.specs.Fields.{Field, constant, column, rowCount, mode, noColumn, zeroConstant, mark, version, tableCount, changeKind, changedTable, someVisible, end, sizes, Laid, laid, followed, runs, widthFields, columnFields, conditionFields, valueFields, insertFields, modeFields, modifyFields, deleteFields, changeFields, questionFields, fieldsOf, questionIn}
 use Rattle.page_questions.specs.Faults.{some, asSaid}
 use Rattle.page_questions.proofs.StepFaults.{judge, at, Agrees, agrees-last, agrees-then, agrees-many, field-then, byte-is}
@@ -169,16 +169,16 @@ module _ (s : List ℕ) where
         (agrees-many s (λ cs p. R.columnAt s p) (λ cs p. columnFields s p) (λ cs p. column-agrees s p) (total ws) [] p)
         (λ cs p. R.fromVisible s kind changed ws cs p) (λ cs p. fromVisible cs p) (visible-all _ _)
 
-  widths-all : (tables kind changed p : ℕ) → R.fromWidths s tables kind changed p
+  widths-all : (tables kind changed p : ℕ) → R.fromWidths limits s tables kind changed p
       ≡ judge s p (followed p (runs (widthFields s) tables [] p) (λ ws p. fromColumns kind changed ws p) .fields) (followed p (runs (widthFields s) tables [] p) (λ ws p. fromColumns kind changed ws p) .value)
   unfolding R.fromWidths
   widths-all tables kind changed p =
-      agrees-last s p (runs (widthFields s) tables [] p) _ (agrees-many s (R.widthAt s) (widthFields s) (width-agrees s) tables [] p) _ _ (columns-all kind changed _ _)
+      agrees-last s p (runs (widthFields s) tables [] p) _ (agrees-many s (R.widthAt mostColumns s) (widthFields s) (width-agrees s) tables [] p) _ _ (columns-all kind changed _ _)
 
   -- the fields with a place of their own
-  head-all : (rest : Laid Question) → R.fromWidths s (getD s 5 0) (getD s 6 0) (getD s 7 0) 8 ≡ judge s 8 (rest .fields) (rest .value)
+  head-all : (rest : Laid Question) → R.fromWidths limits s (getD s 5 0) (getD s 6 0) (getD s 7 0) 8 ≡ judge s 8 (rest .fields) (rest .value)
       → readOf s ≡ judge s 0 (mark ∷ version ∷ tableCount ∷ changeKind ∷ changedTable (getD s 5 0) ∷ rest .fields) (rest .value)
-  unfolding judge asSaid R.readOf R.fromVersion R.fromTables R.fromKind R.fromChanged
+  unfolding judge asSaid R.readUnder R.fromVersion R.fromTables R.fromKind R.fromChanged
   head-all rest h =
       let q = rest .value in
       ap begins

@@ -6,7 +6,7 @@ use lib.Dec.{T}
 use lib.ListN.{length}
 use lib.IntN.{ℤ, negℤ}
 use lib.Signed.{_≤ℤ_}
-use Rattle.page_meaning.specs.Limits.{mostTables, mostColumns, mostTokens, mostComparisons, mostRows}
+use Rattle.page_meaning.specs.Limits.{Limits, limits, mostTokens, mostComparisons, mostRows}
 use Rattle.page_meaning.specs.Condition.{Condition, Token, compare, both, either, negate, Side, constant, column}
 use Rattle.page_meaning.specs.Contents.{Range, Mode, keep, become, shift, Change, insert, delete, modify, Question, columns}
 use Rattle.page_meaning.specs.WellFormed.{WellFormed, Uses}
@@ -80,15 +80,21 @@ abbrev pub Ascending : ℕ → ℕ → List ℕ → Type 0
 Ascending low high [] = Unit {0}
 Ascending low high (i ∷ is) = (low ≤ i) × (i < high) × Ascending (suc i) high is
 
-pub record Accepted (q : Question) : Type 0 where
+-- neither limit is lower in m
+pub record NoLower (l m : Limits) : Type 0 where
+  pub tables : l .tables ≤ m .tables
+  pub columns : l .columns ≤ m .columns
+
+-- under these limits
+pub record AcceptedUnder (l : Limits) (q : Question) : Type 0 where
   -- one mode a column of the changed table, the change's columns its own, inserted rows in range
   pub wellFormed : WellFormed q
   -- FORMAT 1.1
-  pub fewTables : length (q .front) + 1 + length (q .back) ≤ mostTables
+  pub fewTables : length (q .front) + 1 + length (q .back) ≤ l .tables
   pub eachFront : Every (λ t. 1 ≤ length t) (q .front)
   pub changed : 1 ≤ length (q .changed)
   pub eachBack : Every (λ t. 1 ≤ length t) (q .back)
-  pub fewColumns : length (columns q) ≤ mostColumns
+  pub fewColumns : length (columns q) ≤ l .columns
   pub ranges : Every RangeOk (columns q)
   -- FORMAT 1.2: one visible column or more
   pub someVisible : 1 ≤ length (q .visible)
@@ -97,3 +103,6 @@ pub record Accepted (q : Question) : Type 0 where
   pub exist : Uses (λ i. i < length (columns q)) (q .condition)
   pub condition : ConditionOk (q .condition)
   pub change : ChangeAccepted (q .change)
+
+abbrev pub Accepted : Question → Type 0
+Accepted q = AcceptedUnder limits q

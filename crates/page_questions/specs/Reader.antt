@@ -9,7 +9,7 @@ use lib.IntN.{ℤ, pos, negℤ}
 use lib.Signed.{leZ}
 use Rattle.page_numbers.specs.Outcome.{Outcome, good, refused}
 use Rattle.page_numbers.specs.Bytes.{int32}
-use Rattle.page_meaning.specs.Limits.{mostTables, mostColumns, mostTokens, mostComparisons, mostRows}
+use Rattle.page_meaning.specs.Limits.{Limits, limits, mostTokens, mostComparisons, mostRows}
 use Rattle.page_meaning.specs.Condition.{Op, less, atMost, equal, atLeast, more, unequal, Side, constant, column, Token, compare, both, either, negate, Condition}
 use Rattle.page_meaning.specs.Contents.{Range, Mode, keep, become, shift, Values, Change, insert, delete, modify, Question}
 use Rattle.page_questions.specs.Layout.{Column, rangesOf, total, firstOf, tableOf, visibleFrom, questionFrom}
@@ -74,9 +74,9 @@ none = 255
 
 -- ---- columns
 
--- FORMAT 3.2: a table's column count, 1 or more and no more than are left
-abbrev pub widthAt : List ℕ → List ℕ → ℕ → Outcome (At ℕ)
-widthAt s ws p = byte s 4 1 (upTo (mostColumns - total ws)) p
+-- FORMAT 3.2: a table's column count, 1 or more and no more than are left of n
+abbrev pub widthAt : ℕ → List ℕ → List ℕ → ℕ → Outcome (At ℕ)
+widthAt n s ws p = byte s 4 1 (upTo (n - total ws)) p
 
 -- FORMAT 3.2: a column's lo, hi from lo on, and visible byte
 unfoldable pub columnAt : List ℕ → ℕ → Outcome (At Column)
@@ -246,29 +246,35 @@ module _ (s : List ℕ) (kind changed : ℕ) (ws : List ℕ) where
   unfoldable pub fromColumns : ℕ → Read
   fromColumns p = andThen (many (λ cs p. columnAt s p) (total ws) [] p) λ cs p. fromVisible cs p
 
--- FORMAT 3.2: the column counts
-unfoldable pub fromWidths : List ℕ → ℕ → ℕ → ℕ → ℕ → Read
-fromWidths s tables kind changed p = andThen (many (widthAt s) tables [] p) λ ws p. fromColumns s kind changed ws p
-
--- FORMAT 3.2: the changed table
-unfoldable pub fromChanged : List ℕ → ℕ → ℕ → ℕ → Read
-fromChanged s tables kind p = andThen (byte s 4 0 tables p) λ changed p. fromWidths s tables kind changed p
-
--- FORMAT 3.2: the kind of change
-unfoldable pub fromKind : List ℕ → ℕ → ℕ → Read
-fromKind s tables p = andThen (byte s 4 1 (upTo 3) p) λ kind p. fromChanged s tables kind p
-
--- FORMAT 3.2: the table count
-unfoldable pub fromTables : List ℕ → ℕ → Read
-fromTables s p = andThen (byte s 4 1 (upTo mostTables) p) λ tables p. fromKind s tables p
-
--- FORMAT 3.2: the version, one field of two bytes
-unfoldable pub fromVersion : List ℕ → Read
-fromVersion s = cond (leb 5 (length s)) (cond (eqb (getD s 3 0 + 256 * getD s 4 0) 1) (fromTables s 5) (refused 3 3)) (refused 1 3)
-
 -- FORMAT 3.2: the mark, one field of three bytes
 abbrev pub marked : List ℕ → Bool
 marked s = eqb (getD s 0 0) 86 && eqb (getD s 1 0) 85 && eqb (getD s 2 0) 81
 
-unfoldable pub readOf : List ℕ → Read
-readOf s = cond (leb 3 (length s)) (cond (marked s) (fromVersion s) (refused 2 0)) (refused 1 0)
+module _ (l : Limits) (s : List ℕ) where
+  -- FORMAT 3.2: the column counts
+  unfoldable pub fromWidths : ℕ → ℕ → ℕ → ℕ → Read
+  fromWidths tables kind changed p = andThen (many (widthAt (l .columns) s) tables [] p) λ ws p. fromColumns s kind changed ws p
+
+  -- FORMAT 3.2: the changed table
+  unfoldable pub fromChanged : ℕ → ℕ → ℕ → Read
+  fromChanged tables kind p = andThen (byte s 4 0 tables p) λ changed p. fromWidths tables kind changed p
+
+  -- FORMAT 3.2: the kind of change
+  unfoldable pub fromKind : ℕ → ℕ → Read
+  fromKind tables p = andThen (byte s 4 1 (upTo 3) p) λ kind p. fromChanged tables kind p
+
+  -- FORMAT 3.2: the table count
+  unfoldable pub fromTables : ℕ → Read
+  fromTables p = andThen (byte s 4 1 (upTo (l .tables)) p) λ tables p. fromKind tables p
+
+  -- FORMAT 3.2: the version, one field of two bytes
+  unfoldable pub fromVersion : Read
+  fromVersion = cond (leb 5 (length s)) (cond (eqb (getD s 3 0 + 256 * getD s 4 0) 1) (fromTables 5) (refused 3 3)) (refused 1 3)
+
+  -- a question under these limits
+  unfoldable pub readUnder : Read
+  readUnder = cond (leb 3 (length s)) (cond (marked s) fromVersion (refused 2 0)) (refused 1 0)
+
+-- FORMAT 3: a question
+abbrev pub readOf : List ℕ → Read
+readOf s = readUnder limits s

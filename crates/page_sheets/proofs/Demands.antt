@@ -11,17 +11,17 @@ use lib.Dec.{eqb, leb, le→leb}
 use borrow.Author.Tests.{leb-true, leb-false}
 use Rattle.page_numbers.specs.Outcome.{good, refused}
 use Rattle.page_meaning.specs.Contents.{Question}
-use Rattle.page_meaning.specs.Limits.{mostVertices}
+use Rattle.page_meaning.specs.Limits.{mostVertices, limits}
 use Rattle.page_formulas.specs.Formulas.{Formula, formulas, noFormula}
 use Rattle.page_formulas.specs.Program.{Values}
 use Rattle.page_formulas.proofs.ProperFormulas.{formulas-proper}
 use Rattle.page_questions.specs.Guarantees.{Accepted, Every}
 use Rattle.page_questions.specs.Reader.{Read, readOf}
 use Rattle.page_questions.proofs.Guarantees.{accepted}
-use Rattle.page_sheets.specs.Answers.{askedOf, judge, verdictOf, checkFor, checkOf, Done, placed, writeFor, writeOf}
+use Rattle.page_sheets.specs.Answers.{askedOf, judge, verdictUnder, verdictOf, checkFor, checkUnder, checkOf, Done, placed, writeFor, writeUnder, writeOf}
 use Rattle.page_sheets.specs.Demands.{Exact, Askable, Meant, IrrelevantExact, ComputableExact, PassYesProves, PassNoBreaks, PassYesBytes, HasPassingSheet, NeverOpposite, WrittenPasses, Fixed, RoomFixed, GreatestLeaf, OpenGreatest}
 use Rattle.page_sheets.specs.Rows.{noBytes}
-use Rattle.page_sheets.specs.Sheet.{lastVertex, Verdict, sayYes, sayNo, header, sheetFor, verdictFor, findingOf, sheetOf, checkSheet}
+use Rattle.page_sheets.specs.Sheet.{lastVertex, Verdict, sayYes, sayNo, header, sheetFor, verdictFor, findingUnder, findingOf, sheetUnder, sheetOf, checkSheet}
 use Rattle.page_sheets.specs.Trees.{Finding, allShut, firstOpen}
 use Rattle.page_sheets.proofs.Findings.{no-found, found-greatest, opens-at}
 use Rattle.page_sheets.proofs.Fit.{Fit, fit-all, to-true}
@@ -31,7 +31,7 @@ use Rattle.page_sheets.proofs.Refusals.{pass-exactly}
 use Rattle.page_sheets.proofs.Sheets.{sheet-passes, yes-fails, fails-yes, fails-meant, shown-breaks, no-fails}
 
 -- ---- from the bytes to the question
-asked-reads : (a : ℕ) (s : List ℕ) → Askable a → askedOf a s ≡ readOf s
+pub asked-reads : (a : ℕ) (s : List ℕ) → Askable a → askedOf a s ≡ readOf s
 asked-reads a s (inl e) = rw e refl
 asked-reads a s (inr e) = rw e refl
 
@@ -44,24 +44,24 @@ reads-asked a s q e = go (eqb a 1 || eqb a 2) e
 
 -- a sheet that passes is for a question that was read
 checked : (a : ℕ) (s sheet : List ℕ) (v : Verdict) → checkOf a s sheet ≡ good v → (q : Question) × (readOf s ≡ good q) × (checkSheet q a sheet ≡ good v)
-unfolding checkOf
+unfolding checkUnder
 checked a s sheet v e = go (askedOf a s) refl e
   where
-    go : (r : Read) → askedOf a s ≡ r → checkFor a sheet r ≡ good v → (q : Question) × (readOf s ≡ good q) × (checkSheet q a sheet ≡ good v)
+    go : (r : Read) → askedOf a s ≡ r → checkFor limits a sheet r ≡ good v → (q : Question) × (readOf s ≡ good q) × (checkSheet q a sheet ≡ good v)
     go (good q) d e = (q, reads-asked a s q d, e)
     go (refused n o) d e = let z : _≡_ {A = ℕ} 0 1 = cc in absurd (omega arith)
 
 verdict-is : (a : ℕ) (s : List ℕ) (q : Question) → Askable a → readOf s ≡ good q → verdictOf a s ≡ good (verdictFor (findingOf q a))
-unfolding verdictOf
-verdict-is a s q h e = ap (judge a) (asked-reads a s h ∙ e)
+unfolding verdictUnder
+verdict-is a s q h e = ap (judge limits a) (asked-reads a s h ∙ e)
 
 check-is : (a : ℕ) (s sheet : List ℕ) (q : Question) → Askable a → readOf s ≡ good q → checkOf a s sheet ≡ checkSheet q a sheet
-unfolding checkOf
-check-is a s sheet q h e = ap (checkFor a sheet) (asked-reads a s h ∙ e)
+unfolding checkUnder
+check-is a s sheet q h e = ap (checkFor limits a sheet) (asked-reads a s h ∙ e)
 
 write-is : (a : ℕ) (s room : List ℕ) (q : Question) → Askable a → readOf s ≡ good q → writeOf a s room ≡ placed (verdictFor (findingOf q a)) (sheetOf q a) room
-unfolding writeOf
-write-is a s room q h e = ap (writeFor a room) (asked-reads a s h ∙ e)
+unfolding writeUnder
+write-is a s room q h e = ap (writeFor limits a room) (asked-reads a s h ∙ e)
 
 -- ---- demand 2
 exact : (a : ℕ) → Askable a → Exact a (Meant (eqb a 1))
@@ -140,22 +140,22 @@ written-passes a s q h e room l =
 
 -- ---- demand 1
 pub room-fixed : RoomFixed
-unfolding writeOf verdictOf
+unfolding writeUnder verdictUnder
 room-fixed a s room = go (askedOf a s) refl
   where
     put : (q : Question) → askedOf a s ≡ good q → (b : Bool) → leb (length (sheetOf q a)) (length room) ≡ b → (d : Done) → d ≡ cond b (record { answer = good (verdictFor (findingOf q a), length (sheetOf q a)); room = sheetOf q a ++ replicate (length room - length (sheetOf q a)) 0 }) (record { answer = refused 21 0; room = replicate (length room) 0 }) → Fixed a s room (d .answer) (d .room) × (length (d .room) ≡ length room)
     put q e true l d f =
         let fits = leb-true (length (sheetOf q a)) (length room) l in
-        rw f ((q, e, ap (judge a) e, refl, fits, refl), simp (length-append, length-replicate) (omega (arith, fits)))
+        rw f ((q, e, ap (judge limits a) e, refl, fits, refl), simp (length-append, length-replicate) (omega (arith, fits)))
     put q e false l d f = rw f (inr (q, e, leb-false (length (sheetOf q a)) (length room) l, refl, refl, refl), length-replicate (length room) 0)
 
-    go : (r : Read) → askedOf a s ≡ r → Fixed a s room (writeFor a room r .answer) (writeFor a room r .room) × (length (writeFor a room r .room) ≡ length room)
+    go : (r : Read) → askedOf a s ≡ r → Fixed a s room (writeFor limits a room r .answer) (writeFor limits a room r .room) × (length (writeFor limits a room r .room) ≡ length room)
     go (good q) e = put q e (leb (length (sheetOf q a)) (length room)) refl (placed (verdictFor (findingOf q a)) (sheetOf q a) room) refl
     go (refused n o) e = (inl (e, refl), refl)
 
 -- ---- the values of a no sheet
 pub open-greatest : OpenGreatest
-unfolding sheetOf findingOf
+unfolding sheetUnder findingUnder
 open-greatest a s q h e v = go (findingOf q a) refl (sym (verdict-is a s q h e) ∙ v)
   where
     fit-formulas : Every (Fit mostVertices) (formulas q a)

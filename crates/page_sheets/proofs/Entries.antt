@@ -11,7 +11,7 @@ use lib.IntN.{pos}
 use lib.Signed.{ltZ}
 use Rattle.page_numbers.specs.Outcome.{good, refused}
 use Rattle.page_meaning.specs.Contents.{Question}
-use Rattle.page_meaning.specs.Limits.{mostVertices}
+use Rattle.page_meaning.specs.Limits.{mostVertices, limits}
 use Rattle.page_meaning.proofs.Truth.{and-l, and-r}
 use Rattle.page_walks.specs.Grid.{Grid, weight}
 use Rattle.page_walks.specs.Walk.{closed}
@@ -21,7 +21,7 @@ use Rattle.page_formulas.specs.Program.{Place, places}
 use Rattle.page_formulas.specs.Vertices.{Ranges, present}
 use Rattle.page_questions.specs.Guarantees.{Every}
 use Rattle.page_sheets.specs.Facts.{start, decide}
-use Rattle.page_sheets.specs.Sheet.{sayYes, yesEnd, checkYes, checkBody, marked, versioned, checkSheet}
+use Rattle.page_sheets.specs.Sheet.{sayYes, yesEnd, checkYes, checkBody, marked, versioned, checkSheetUnder, checkSheet}
 use Rattle.page_sheets.specs.Tree.{Checked, andThen, Vertices, more, vertices, falseNode, cycleEnd, node, check}
 use Rattle.page_sheets.specs.Trees.{checkTrees}
 use Rattle.page_sheets.proofs.Fields.{field-says}
@@ -100,7 +100,7 @@ trees-bytes [] a at bs = λ h. h
 trees-bytes (F ∷ Fs) a at bs = then-told (check mostVertices F (places (F .program)) [] (start mostVertices (F .ranges)) at bs) _ bs (check-bytes F (a .0 .some-vertex) (places (F .program)) [] (start mostVertices (F .ranges)) at bs) (λ o r. trees-bytes Fs (a .1) o r)
 
 -- the trees of a yes sheet that passes
-yes-bytes : (Fs : List Formula) → Every (Fit mostVertices) Fs → (s : List ℕ) → checkYes Fs s ≡ good sayYes → Every Byte (drop 7 s)
+yes-bytes : (Fs : List Formula) → Every (Fit mostVertices) Fs → (s : List ℕ) → checkYes mostVertices Fs s ≡ good sayYes → Every Byte (drop 7 s)
 unfolding checkYes
 yes-bytes Fs a s = go (checkTrees mostVertices Fs 7 (drop 7 s)) (trees-bytes Fs a 7 (drop 7 s))
   where
@@ -122,7 +122,7 @@ record Headed (a : ℕ) (s : List ℕ) : Type 0 where
   verdict : getD s 6 0 ≤ 1
 
 headed : (q : Question) (a : ℕ) (s : List ℕ) → checkSheet q a s ≡ good sayYes → Headed a s
-unfolding checkSheet
+unfolding checkSheetUnder
 headed q a s e =
     let m = field-says s 0 3 (marked s) 12 _ sayYes e in
     let n = field-says s 3 2 (versioned s) 13 _ sayYes (m .2) in
@@ -151,6 +151,6 @@ entries a l s h k (suc (suc (suc (suc (suc (suc (suc i))))))) =
 pub sheet-bytes : (q : Question) (a : ℕ) → a < 256 → (s : List ℕ) → Every (Fit mostVertices) (formulas q a) → checkSheet q a s ≡ good sayYes → (i : ℕ) → getD s i 0 < 256
 sheet-bytes q a l s fit e = entries a l s (headed q a s e) (body (getD s 6 0) (body-says q a s sayYes e))
   where
-    body : (v : ℕ) → checkBody q a s v ≡ good sayYes → Every Byte (drop 7 s)
+    body : (v : ℕ) → checkBody limits q a s v ≡ good sayYes → Every Byte (drop 7 s)
     body zero d = yes-bytes (formulas q a) fit s d
     body (suc v) d = absurd (let n = no-passes q (formulas q a) s sayYes d .0 in let z : _≡_ {A = ℕ} 0 1 = cc in omega arith)

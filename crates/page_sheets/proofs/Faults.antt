@@ -13,7 +13,7 @@ use lib.IntN.{ℤ, pos}
 use lib.Signed.{ltZ}
 use Rattle.page_numbers.specs.Outcome.{good, refused}
 use Rattle.page_meaning.specs.Contents.{Question}
-use Rattle.page_meaning.specs.Limits.{mostVertices}
+use Rattle.page_meaning.specs.Limits.{mostVertices, limits}
 use Rattle.page_walks.specs.Grid.{Grid, weight}
 use Rattle.page_walks.specs.Walk.{closed}
 use Rattle.page_formulas.specs.Formulas.{Formula, formulas, noFormula}
@@ -23,7 +23,7 @@ use Rattle.page_formulas.specs.Vertices.{Ranges, present}
 use Rattle.page_sheets.specs.Facts.{start, decide}
 use Rattle.page_sheets.specs.Faults.{Field, test, whole, asSaid, numberOf, placeOf, Run, run, followed, isNode, isFalse, vertexFields, cycleFields, restFields, nodeFields, treeFields, treesFields, yesFields, valueFields, noFields, bodyFields, sheetFields, verdictBy, verdictIn, AllSaid, Fault, FirstFault}
 use Rattle.page_sheets.specs.Rows.{fields, fieldAt, valueAt, fieldOk}
-use Rattle.page_sheets.specs.Sheet.{Verdict, sayYes, sayNo, Answer, field, yesEnd, checkYes, checkFields, noEnd, checkRows, checkNo, checkBody, marked, versioned, checkSheet}
+use Rattle.page_sheets.specs.Sheet.{Verdict, sayYes, sayNo, Answer, field, yesEnd, checkYes, checkFields, noEnd, checkRows, checkNo, checkBody, marked, versioned, checkSheetUnder, checkSheet}
 use Rattle.page_sheets.specs.Tree.{Checked, andThen, more, vertices, falseNode, cycleEnd, cycleNode, node, check}
 use Rattle.page_sheets.specs.Trees.{checkTrees}
 
@@ -131,7 +131,7 @@ module _ (s : List ℕ) where
       ap (λ r. andThen r (λ o r. checkTrees mostVertices Fs o r)) (tree-judged mostVertices F (places (F .program)) [] (start mostVertices (F .ranges)) at)
       ∙ judge-then refused refused s (λ r. andThen r (λ o r. checkTrees mostVertices Fs o r)) (λ n p. refl) (x .fields) (treesFields s Fs (x .next) .fields) _ _ (trees-judged Fs (x .next))
 
-  yes-judged : (Fs : List Formula) → checkYes Fs s ≡ judge refused s (yesFields s Fs) (good sayYes)
+  yes-judged : (Fs : List Formula) → checkYes mostVertices Fs s ≡ judge refused s (yesFields s Fs) (good sayYes)
   unfolding checkYes judge
   yes-judged Fs =
       let r = treesFields s Fs 7 in
@@ -158,12 +158,12 @@ module _ (s : List ℕ) where
       let F = getD Fs i noFormula in
       ap (λ r. cond (leb 8 (length s)) (cond (ltb i (length Fs)) r (refused 14 7)) (refused 11 7)) (values-judged (fieldOk q i s) (fields q F) 0 _ _ (good sayNo) refl)
 
-  body-judged : (q : Question) (a : ℕ) (v : ℕ) → checkBody q a s v ≡ judge refused s (bodyFields s q a v) (good (verdictBy v))
+  body-judged : (q : Question) (a : ℕ) (v : ℕ) → checkBody limits q a s v ≡ judge refused s (bodyFields s q a v) (good (verdictBy v))
   body-judged q a zero = yes-judged (formulas q a)
   body-judged q a (suc v) = no-judged q (formulas q a)
 
   sheet-judged : (q : Question) (a : ℕ) → checkSheet q a s ≡ judge refused s (sheetFields s q a) (good (verdictIn s))
-  unfolding checkSheet judge
+  unfolding checkSheetUnder judge
   sheet-judged q a =
       ap (λ r. field s 0 3 (marked s) 12 (field s 3 2 (versioned s) 13 (field s 5 1 (eqb (getD s 5 0) a) 14 (field s 6 1 (leb (getD s 6 0) 1) 14 r))))
       (body-judged q a (getD s 6 0))

@@ -20,7 +20,7 @@ use Rattle.page_questions.specs.Guarantees.{Every}
 
 pub record Fit (N : ℕ) (F : Formula) : Type 0 where
   pub some-vertex : length (F .ranges) < N
-  pub few : N ≤ 25
+  pub few : N ≤ mostVertices
   pub ranges-small : Every SmallRange (F .ranges)
   pub places-small : Every (SmallPlace (F .ranges)) (places (F .program))
 

@@ -11,6 +11,7 @@ use lib.Dec.{T, leb, le→leb}
 use lib.IntN.{pos}
 use lib.Signed.{_<ℤ_, ltZ}
 use Rattle.page_numbers.specs.Outcome.{good, refused}
+use Rattle.page_meaning.specs.Limits.{mostVertices}
 use Rattle.page_walks.specs.Grid.{Grid, weight}
 use Rattle.page_walks.specs.Search.{search, dist}
 use Rattle.page_walks.specs.Shortest.{Shortest}
@@ -53,13 +54,13 @@ module _ (n : ℕ) (F : Formula) where
   Passes f (shut t) = (at : ℕ) (rest : List ℕ) → f at (bytesOf t ++ rest) ≡ good (at + length (bytesOf t), rest)
   Passes f (openAt x) = Unit {0}
 
-  found-passes : (ds : List Bool) (g : Grid) (branch : ℕ → List ℕ → Checked) → InBounds (suc n) (F .ranges) g → suc n ≤ 25 → (c : List ℕ) → search (weight g) n ≡ some c → Passes (λ at bs. node (suc n) F ds g at bs (branch at)) (shut (cycle c))
+  found-passes : (ds : List Bool) (g : Grid) (branch : ℕ → List ℕ → Checked) → InBounds (suc n) (F .ranges) g → suc n ≤ mostVertices → (c : List ℕ) → search (weight g) n ≡ some c → Passes (λ at bs. node (suc n) F ds g at bs (branch at)) (shut (cycle c))
   unfolding bytesOf
   found-passes ds g branch b few c e at rest =
       let s : Shortest (weight g) n c = rw e at (search-is (weight g) n) in
       cycle-passes g c at rest (s .some-vertex) (s .short) (negative-present (suc n) (F .ranges) g b c (omega (arith, s .short)) (s .negative)) (s .negative) ∙ ap (λ o. good (o, rest)) (omega arith)
 
-  node-passes : (ds : List Bool) (g : Grid) (branch : ℕ → List ℕ → Checked) → InBounds (suc n) (F .ranges) g → suc n ≤ 25 → (k : Three) → known (F .program) ds ≡ k → (s : Option (List ℕ)) → search (weight g) n ≡ s → (x : Values) (r : Growth) → Passes (λ at bs. node (suc n) F ds g at bs (branch at)) r → Passes (λ at bs. node (suc n) F ds g at bs (branch at)) (atNode k s x r)
+  node-passes : (ds : List Bool) (g : Grid) (branch : ℕ → List ℕ → Checked) → InBounds (suc n) (F .ranges) g → suc n ≤ mostVertices → (k : Three) → known (F .program) ds ≡ k → (s : Option (List ℕ)) → search (weight g) n ≡ s → (x : Values) (r : Growth) → Passes (λ at bs. node (suc n) F ds g at bs (branch at)) r → Passes (λ at bs. node (suc n) F ds g at bs (branch at)) (atNode k s x r)
   unfolding bytesOf
   node-passes ds g branch b few fails e s d x r h = λ at rest. rw e (ap (λ o. good (o, rest)) (omega arith))
   node-passes ds g branch b few passes e (some c) d x r h = found-passes ds g branch b few c d
@@ -77,7 +78,7 @@ module _ (n : ℕ) (F : Formula) where
       ∙ k (suc at + length (bytesOf t)) rest
       ∙ ap (λ o. good (o, rest)) (omega (arith, length-append (bytesOf t) (bytesOf f)))
 
-  grow-passes : (todo : List Place) (ds : List Bool) (g : Grid) → suc n ≤ 25 → InBounds (suc n) (F .ranges) g → Every (SmallPlace (F .ranges)) todo → Passes (λ at bs. check (suc n) F todo ds g at bs) (grow n F todo ds g)
+  grow-passes : (todo : List Place) (ds : List Bool) (g : Grid) → suc n ≤ mostVertices → InBounds (suc n) (F .ranges) g → Every (SmallPlace (F .ranges)) todo → Passes (λ at bs. check (suc n) F todo ds g at bs) (grow n F todo ds g)
   unfolding grow check
   grow-passes [] ds g few b a = node-passes ds g (λ at rest. refused 15 at) b few (known (F .program) ds) refl (search (weight g) n) refl (dist (weight g) n) (openAt (dist (weight g) n)) tt
   grow-passes (p ∷ todo) ds g few b a =

@@ -12,6 +12,7 @@ use lib.IntN.{ℤ, pos, negsuc, _+ℤ_, negℤ}
 use lib.Signed.{_≤ℤ_, _<ℤ_, leZ-yes, ≤ℤ-refl}
 use Rattle.page_numbers.specs.Numbers.{up, dn}
 use Rattle.page_numbers.proofs.Bridge.{+law, +dn, neg-up, neg-dn, ints}
+use Rattle.page_meaning.specs.Limits.{mostVertices}
 use Rattle.page_walks.specs.Grid.{far, Grid, weight, tighten, blank}
 use Rattle.page_walks.specs.Sizes.{least-weight, Sized}
 use Rattle.page_walks.specs.Walk.{closed, Sat}
@@ -90,7 +91,7 @@ module _ (N : ℕ) (rs : Ranges) (g : Grid) (b : InBounds N rs g) where
       go true yes′ no′ (inr m) = inr (inr m)
       go false yes′ no′ r = inr (lacks u (x ∷ p) t no′)
 
-  pub negative-present : (c : List ℕ) → length c ≤ 25 → closed (weight g) c <ℤ pos 0 → Every (λ v. T (present rs v)) c
+  pub negative-present : (c : List ℕ) → length c ≤ mostVertices → closed (weight g) c <ℤ pos 0 → Every (λ v. T (present rs v)) c
   negative-present [] l h = tt
   negative-present (v ∷ p) l h = elim (present-or-misses v p v) [ inl a ↦ a | inr m ↦ absurd (omega (ints, missing-closed (weight g) (b .floor) v p (omega arith) m)) ]
 

@@ -12,6 +12,8 @@ pub mod RangeClosure
 pub mod FastRule
 pub mod Steps
 pub mod OwnVertices
+pub mod GridSizes
+pub mod LongerCycles
 pub mod Descent
 pub mod Values
 pub mod InsertedValues
@@ -34,3 +36,4 @@ pub mod Numbers
 pub mod Refusals
 pub mod Faults
 pub mod Entries
+pub mod RaisedLimits

@@ -10,7 +10,7 @@ use lib.Dec.{eqb, leb, ltb}
 use lib.IntN.{ℤ, pos}
 use lib.Signed.{ltZ}
 use Rattle.page_numbers.specs.Outcome.{good, refused}
-use Rattle.page_meaning.specs.Limits.{mostVertices}
+use Rattle.page_meaning.specs.Limits.{mostVertices, limits}
 use Rattle.page_meaning.specs.Contents.{Question}
 use Rattle.page_walks.specs.Grid.{Grid, weight}
 use Rattle.page_walks.specs.Walk.{closed}
@@ -24,8 +24,8 @@ use Rattle.page_sheets.specs.Facts.{start, decide}
 use Rattle.page_sheets.specs.Tree.{Checked, andThen, Vertices, more, vertices, falseNode, cycleEnd, node, check}
 use Rattle.page_sheets.specs.Trees.{checkTrees}
 use Rattle.page_sheets.specs.Rows.{fieldAt, valueAt, fieldOk, fields, readValues}
-use Rattle.page_sheets.specs.Sheet.{sayNo, Answer, field, yesEnd, checkYes, checkFields, noEnd, checkRows, checkNo, checkBody, marked, versioned, checkSheet}
-use Rattle.page_sheets.specs.Answers.{checkFor, checkOf}
+use Rattle.page_sheets.specs.Sheet.{sayNo, Answer, field, yesEnd, checkYes, checkFields, noEnd, checkRows, checkNo, checkBody, marked, versioned, checkSheetUnder, checkSheet}
+use Rattle.page_sheets.specs.Answers.{checkFor, checkUnder, checkOf}
 
 -- a number of the sheet's own
 abbrev pub Own : ℕ → Type 0
@@ -107,7 +107,7 @@ field-numbered s at w ok number next h k = go (leb (at + w) (length s)) ok
     go true false = h
     go false o = (omega arith, omega arith)
 
-yes-numbered : (Fs : List Formula) (s : List ℕ) → Numbered (checkYes Fs s)
+yes-numbered : (Fs : List Formula) (s : List ℕ) → Numbered (checkYes mostVertices Fs s)
 unfolding checkYes
 yes-numbered Fs s = go (checkTrees mostVertices Fs 7 (drop 7 s)) (trees-tried mostVertices Fs 7 (drop 7 s))
   where
@@ -138,14 +138,14 @@ no-numbered q Fs s =
     field-numbered s 7 1 (ltb i (length Fs)) 14 _ (own 14 (omega arith) (omega arith)) (fields-numbered (fieldOk q i s) s (fields q F) 0 (noEnd q F s) (end-numbered q F s))
 
 sheet-numbered : (q : Question) (a : ℕ) (s : List ℕ) → Numbered (checkSheet q a s)
-unfolding checkSheet
+unfolding checkSheetUnder
 sheet-numbered q a s =
     field-numbered s 0 3 (marked s) 12 _ (own 12 (omega arith) (omega arith))
     (field-numbered s 3 2 (versioned s) 13 _ (own 13 (omega arith) (omega arith))
     (field-numbered s 5 1 (eqb (getD s 5 0) a) 14 _ (own 14 (omega arith) (omega arith))
     (field-numbered s 6 1 (leb (getD s 6 0) 1) 14 _ (own 14 (omega arith) (omega arith)) (body (getD s 6 0)))))
   where
-    body : (v : ℕ) → Numbered (checkBody q a s v)
+    body : (v : ℕ) → Numbered (checkBody limits q a s v)
     body zero = yes-numbered (formulas q a) s
     body (suc v) = no-numbered q (formulas q a) s
 
@@ -162,17 +162,17 @@ AllGiven (good v) = Unit {0}
 AllGiven (refused n p) = Given n
 
 pub check-given : (a : ℕ) (s sheet : List ℕ) (n p : ℕ) → checkOf a s sheet ≡ refused n p → Given n
-unfolding checkOf
+unfolding checkUnder
 check-given a s sheet n p e = subst AllGiven e (asked (eqb a 1 || eqb a 2))
   where
     own-given : (x : Answer) → Numbered x → AllGiven x
     own-given (good v) h = tt
     own-given (refused m o) h = inr (inr h)
 
-    question : (r : Read) → readOf s ≡ r → AllGiven (checkFor a sheet r)
+    question : (r : Read) → readOf s ≡ r → AllGiven (checkFor limits a sheet r)
     question (good q) h = own-given (checkSheet q a sheet) (sheet-numbered q a sheet)
     question (refused m o) h = let b = refused-bounds s m o h in inr (inl (b .0, b .1))
 
-    asked : (b : Bool) → AllGiven (checkFor a sheet (cond b (readOf s) (refused 20 0)))
+    asked : (b : Bool) → AllGiven (checkFor limits a sheet (cond b (readOf s) (refused 20 0)))
     asked true = question (readOf s) refl
     asked false = inl refl

@@ -7,6 +7,7 @@ use mathlib.Core.List.{List, [], _∷_, _++_}
 use native.Mathlib.Omega.{arith}
 use lib.ListN.{length}
 use lib.Dec.{T}
+use Rattle.page_meaning.specs.Limits.{mostVertices}
 use Rattle.page_walks.specs.Grid.{Grid, weight}
 use Rattle.page_walks.specs.Nearness.{Weights, relax}
 use Rattle.page_walks.specs.Search.{search}
@@ -27,16 +28,16 @@ use Rattle.page_sheets.proofs.SameFacts.{OfRanges}
 
 module _ (n : ℕ) (F : Formula) where
   -- an edge at a vertex above the last of the ranges is missing
-  alone : (g : Grid) → InBounds (suc n) (F .ranges) g → Alone (weight g) (length (F .ranges))
+  pub alone : (g : Grid) → InBounds (suc n) (F .ranges) g → Alone (weight g) (length (F .ranges))
   alone g b = record { no-way-out = λ u v h. b .no-way-out u v (above u h); no-way-in = λ u v h. b .no-way-in u v (above v h) }
     where
       above : (v : ℕ) → length (F .ranges) < v → ¬ T (present (F .ranges) v)
       above v h t = omega (arith, present-below (F .ranges) v t)
 
-  half-among : length (F .ranges) ≤ n → n < 25 → (near : Weights) (q : Place) (ds : List Bool) (g : Grid) → InBounds (suc n) (F .ranges) g → (r r′ : Growth) → r ≡ r′ → half n F near q ds g r ≡ half (length (F .ranges)) F near q ds g r′
+  half-among : length (F .ranges) ≤ n → n < mostVertices → (near : Weights) (q : Place) (ds : List Bool) (g : Grid) → InBounds (suc n) (F .ranges) g → (r r′ : Growth) → r ≡ r′ → half n F near q ds g r ≡ half (length (F .ranges)) F near q ds g r′
   half-among l few near q ds g b r r′ e = ap₂ (λ o x. cond (strained near q) (strainedNode (known (F .program) ds) o) x) (among-search (weight g) (length (F .ranges)) (alone g b) (b .floor) n l few) e
 
-  pub fast-among : length (F .ranges) ≤ n → n < 25 → (todo : List Place) (ds : List Bool) (g : Grid) (near : Weights) → InBounds (suc n) (F .ranges) g → Every (SmallPlace (F .ranges)) todo → fast n F todo ds g near ≡ fast (length (F .ranges)) F todo ds g near
+  pub fast-among : length (F .ranges) ≤ n → n < mostVertices → (todo : List Place) (ds : List Bool) (g : Grid) (near : Weights) → InBounds (suc n) (F .ranges) g → Every (SmallPlace (F .ranges)) todo → fast n F todo ds g near ≡ fast (length (F .ranges)) F todo ds g near
   unfolding fast
   fast-among l few [] ds g near b a = refl
   fast-among l few (p ∷ todo) ds g near b a = ap₂ (λ t f. calmNode (known (F .program) ds) (near 0) (join t f)) (side true (λ b′. fast-among l few todo _ _ _ b′ (a .1))) (side false (λ b′. fast-among l few todo _ _ _ b′ (a .1)))
@@ -97,6 +98,6 @@ module _ (n : ℕ) (F : Formula) where
   pub fast-formula : Fit (suc n) F → (near : Weights) → OfRanges (F .ranges) near → Same (Here (F .ranges)) (growTree n F) (fast (length (F .ranges)) F (places (F .program)) [] (start (suc n) (F .ranges)) near)
   fast-formula p near o =
       let m = length (F .ranges) in
-      let few : n < 25 = omega (arith, p .few) in
+      let few : n < mostVertices = omega (arith, p .few) in
       let l : m ≤ n = omega (arith, p .some-vertex) in
       rw (fast-among l few (places (F .program)) [] (start (suc n) (F .ranges)) near (bounds-start (suc n) (F .ranges) (p .ranges-small)) (p .places-small)) at (fast-tree n F p near o)

@@ -9,14 +9,14 @@ use lib.Dec.{T, eqb, leb, ltb, ltb→lt}
 use Rattle.page_numbers.specs.Outcome.{good, refused}
 use Rattle.page_meaning.specs.Condition.{equal, holds}
 use Rattle.page_meaning.specs.Contents.{look, fits, Question, columns, part}
-use Rattle.page_meaning.specs.Limits.{mostVertices}
+use Rattle.page_meaning.specs.Limits.{mostVertices, limits}
 use Rattle.page_meaning.proofs.Truth.{and-l, and-r}
 use Rattle.page_formulas.specs.Formulas.{Formula, among, formulas, tabulate, noFormula}
 use Rattle.page_formulas.specs.Program.{truth}
 use Rattle.page_formulas.proofs.Usability.{Exists}
 use Rattle.page_questions.specs.Guarantees.{Every}
 use Rattle.page_sheets.specs.Rows.{valueAt, width, fields, fieldAt, firstRead, secondRead, readValues, inColumn, secondOk, fieldOk}
-use Rattle.page_sheets.specs.Sheet.{marked, Verdict, sayYes, sayNo, yesEnd, checkYes, noEnd, checkRows, checkNo, checkBody, versioned, checkSheet}
+use Rattle.page_sheets.specs.Sheet.{marked, Verdict, sayYes, sayNo, yesEnd, checkYes, noEnd, checkRows, checkNo, checkBody, versioned, checkSheetUnder, checkSheet}
 use Rattle.page_sheets.specs.Tree.{Checked}
 use Rattle.page_sheets.specs.Trees.{checkTrees}
 use Rattle.page_sheets.proofs.Fields.{field-says, FieldsOk, fields-say, field-first, field-second}
@@ -53,8 +53,8 @@ no-passes q Fs s v e =
     (n .0, record { below = ltb→lt i (length Fs) (f .1); values = r .0; met = n .1 })
 
 -- ---- by the verdict byte
-pub body-says : (q : Question) (a : ℕ) (s : List ℕ) (v : Verdict) → checkSheet q a s ≡ good v → checkBody q a s (getD s 6 0) ≡ good v
-unfolding checkSheet
+pub body-says : (q : Question) (a : ℕ) (s : List ℕ) (v : Verdict) → checkSheet q a s ≡ good v → checkBody limits q a s (getD s 6 0) ≡ good v
+unfolding checkSheetUnder
 body-says q a s v e =
     let mark = field-says s 0 3 (marked s) 12 _ v e in
     let version = field-says s 3 2 (versioned s) 13 _ v (mark .2) in
@@ -75,10 +75,10 @@ pub passes-show : (q : Question) (a : ℕ) (s : List ℕ) (v : Verdict) → Ever
 unfolding checkYes
 passes-show q a s v p e = go (getD s 6 0) (body-says q a s v e)
   where
-    yes-case : (v : Verdict) → checkYes (formulas q a) s ≡ good v → Shown q a s v
+    yes-case : (v : Verdict) → checkYes mostVertices (formulas q a) s ≡ good v → Shown q a s v
     yes-case v e = let y = yes-end (checkTrees mostVertices (formulas q a) 7 (drop 7 s)) v e in rw (y .0) (yes-sound mostVertices (formulas q a) p 7 (drop 7 s) (y .1 .0) [] (y .1 .1))
 
-    go : (b : ℕ) → checkBody q a s b ≡ good v → Shown q a s v
+    go : (b : ℕ) → checkBody limits q a s b ≡ good v → Shown q a s v
     go zero e = yes-case v e
     go (suc b) e = let n = no-passes q (formulas q a) s v e in rw (n .0) (n .1)
 

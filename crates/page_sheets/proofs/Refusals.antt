@@ -8,13 +8,14 @@ use native.Mathlib.Omega.{arith}
 use borrow.Author.Tests.{eqb-true, eqb-false, leb-true, leb-false}
 use lib.ListN.{length, take}
 use lib.Dec.{eqb, leb}
+use Rattle.page_meaning.specs.Limits.{limits}
 use Rattle.page_numbers.specs.Outcome.{good, refused}
 use Rattle.page_meaning.specs.Contents.{Question}
 use Rattle.page_questions.specs.Lengths.{longest}
 use Rattle.page_questions.specs.Reader.{Read, readOf}
 use Rattle.page_questions.proofs.Lengths.{first-bytes-tell}
 use Rattle.page_questions.proofs.Refusals.{refused-bounds}
-use Rattle.page_sheets.specs.Answers.{askedOf, judge, verdictOf, checkFor, checkOf, Written, Done, writeFor, writeOf}
+use Rattle.page_sheets.specs.Answers.{askedOf, judge, verdictUnder, checkFor, checkUnder, Written, Done, writeFor, writeUnder}
 use Rattle.page_sheets.specs.Demands.{Askable}
 use Rattle.page_sheets.specs.Faults.{AllSaid, sheetFields, verdictIn}
 use Rattle.page_sheets.specs.Refusals.{NotAskable, TwentyExactly, TooLongExactly, ReadExactly, SheetExactly, PassExactly, FirstBytesAnswer}
@@ -114,17 +115,17 @@ module _ {A : Type 0} (refuse : ℕ → ℕ → A) (number place : A → ℕ) (i
 apart : (n : ℕ) → 20 < n → (10 < n) × (n ≢ 20)
 apart n l = (omega arith, λ e. omega arith)
 
-verdict-own : (a : ℕ) (q : Question) → (10 < numberIn (judge a (good q))) × (numberIn (judge a (good q)) ≢ 20)
+verdict-own : (a : ℕ) (q : Question) → (10 < numberIn (judge limits a (good q))) × (numberIn (judge limits a (good q)) ≢ 20)
 verdict-own a q = apart 100 (omega arith)
 
-check-own : (a : ℕ) (sheet : List ℕ) (q : Question) → (10 < numberIn (checkFor a sheet (good q))) × (numberIn (checkFor a sheet (good q)) ≢ 20)
+check-own : (a : ℕ) (sheet : List ℕ) (q : Question) → (10 < numberIn (checkFor limits a sheet (good q))) × (numberIn (checkFor limits a sheet (good q)) ≢ 20)
 check-own a sheet q = go (checkSheet q a sheet) refl
   where
     go : (x : Answer) → checkSheet q a sheet ≡ x → (10 < numberIn x) × (numberIn x ≢ 20)
     go (good v) e = apart 100 (omega arith)
     go (refused n p) e = let o = sheet-own q a sheet n p e in (omega (arith, o .0), λ d. omega (arith, o .1))
 
-write-own : (a : ℕ) (room : List ℕ) (q : Question) → (10 < numberOf (writeFor a room (good q) .answer)) × (numberOf (writeFor a room (good q) .answer) ≢ 20)
+write-own : (a : ℕ) (room : List ℕ) (q : Question) → (10 < numberOf (writeFor limits a room (good q) .answer)) × (numberOf (writeFor limits a room (good q) .answer) ≢ 20)
 write-own a room q = go (leb (length (sheetOf q a)) (length room)) _ _ (apart 100 (omega arith)) (apart 21 (omega arith))
   where
     go : (b : Bool) (x y : Done) → (10 < numberOf (x .answer)) × (numberOf (x .answer) ≢ 20) → (10 < numberOf (y .answer)) × (numberOf (y .answer) ≢ 20) → (10 < numberOf (cond b x y .answer)) × (numberOf (cond b x y .answer) ≢ 20)
@@ -134,51 +135,51 @@ write-own a room q = go (leb (length (sheetOf q a)) (length room)) _ _ (apart 10
 -- ---- the theorems
 
 pub twenty-exactly : TwentyExactly
-unfolding verdictOf writeOf checkOf
+unfolding verdictUnder writeUnder checkUnder
 twenty-exactly a s p = (
-  twenty refused numberIn placeIn (λ n p. refl) (λ n p. refl) (judge a) (λ n p. refl) (verdict-own a) a s p,
-  (λ room. twenty refused numberOf placeOf (λ n p. refl) (λ n p. refl) (λ r. writeFor a room r .answer) (λ n p. refl) (write-own a room) a s p),
-  (λ sheet. twenty refused numberIn placeIn (λ n p. refl) (λ n p. refl) (checkFor a sheet) (λ n p. refl) (check-own a sheet) a s p),
+  twenty refused numberIn placeIn (λ n p. refl) (λ n p. refl) (judge limits a) (λ n p. refl) (verdict-own a) a s p,
+  (λ room. twenty refused numberOf placeOf (λ n p. refl) (λ n p. refl) (λ r. writeFor limits a room r .answer) (λ n p. refl) (write-own a room) a s p),
+  (λ sheet. twenty refused numberIn placeIn (λ n p. refl) (λ n p. refl) (checkFor limits a sheet) (λ n p. refl) (check-own a sheet) a s p),
 )
 
 pub read-exactly : ReadExactly
-unfolding verdictOf writeOf checkOf
+unfolding verdictUnder writeUnder checkUnder
 read-exactly a s n p l = (
-  read-first refused numberIn placeIn (λ n p. refl) (λ n p. refl) (judge a) (λ n p. refl) (verdict-own a) a s n p l,
-  (λ room. read-first refused numberOf placeOf (λ n p. refl) (λ n p. refl) (λ r. writeFor a room r .answer) (λ n p. refl) (write-own a room) a s n p l),
-  (λ sheet. read-first refused numberIn placeIn (λ n p. refl) (λ n p. refl) (checkFor a sheet) (λ n p. refl) (check-own a sheet) a s n p l),
+  read-first refused numberIn placeIn (λ n p. refl) (λ n p. refl) (judge limits a) (λ n p. refl) (verdict-own a) a s n p l,
+  (λ room. read-first refused numberOf placeOf (λ n p. refl) (λ n p. refl) (λ r. writeFor limits a room r .answer) (λ n p. refl) (write-own a room) a s n p l),
+  (λ sheet. read-first refused numberIn placeIn (λ n p. refl) (λ n p. refl) (checkFor limits a sheet) (λ n p. refl) (check-own a sheet) a s n p l),
 )
 
 pub sheet-exactly : SheetExactly
-unfolding checkOf
+unfolding checkUnder
 sheet-exactly a s sheet n p l h =
-    let x = good-first refused numberIn placeIn (λ n p. refl) (λ n p. refl) (checkFor a sheet) (λ n p. refl) (check-own a sheet) a s n p l (λ e. omega arith) in (
+    let x = good-first refused numberIn placeIn (λ n p. refl) (λ n p. refl) (checkFor limits a sheet) (λ n p. refl) (check-own a sheet) a s n p l (λ e. omega arith) in (
       (λ e. let y = x .0 e in (y .0, (y .1 .0, y .1 .1, sheet-refused (y .1 .0) a sheet n p .0 (y .1 .2)))),
       (λ y. x .1 (y .0, (y .1 .0, y .1 .1, sheet-refused (y .1 .0) a sheet n p .1 (y .1 .2)))),
     )
 
 pub pass-exactly : PassExactly
-unfolding checkOf
+unfolding checkUnder
 pass-exactly a s sheet v = (forth, back)
   where
-    forth : checkFor a sheet (askedOf a s) ≡ good v → Askable a × ((q : Question) × (readOf s ≡ good q) × AllSaid sheet (sheetFields sheet q a) × (verdictIn sheet ≡ v))
+    forth : checkFor limits a sheet (askedOf a s) ≡ good v → Askable a × ((q : Question) × (readOf s ≡ good q) × AllSaid sheet (sheetFields sheet q a) × (verdictIn sheet ≡ v))
     forth e = elim (asked-cases a s) [
-      | inl x ↦ (x .0, go (readOf s) refl (ap (checkFor a sheet) (sym (x .1)) ∙ e))
-      | inr x ↦ absurd (let z : _≡_ {A = ℕ} 20 100 = ap numberIn (ap (checkFor a sheet) (sym (x .1)) ∙ e) in omega (arith, z))
+      | inl x ↦ (x .0, go (readOf s) refl (ap (checkFor limits a sheet) (sym (x .1)) ∙ e))
+      | inr x ↦ absurd (let z : _≡_ {A = ℕ} 20 100 = ap numberIn (ap (checkFor limits a sheet) (sym (x .1)) ∙ e) in omega (arith, z))
     ]
       where
-        go : (r : Read) → readOf s ≡ r → checkFor a sheet r ≡ good v → (q : Question) × (readOf s ≡ good q) × AllSaid sheet (sheetFields sheet q a) × (verdictIn sheet ≡ v)
+        go : (r : Read) → readOf s ≡ r → checkFor limits a sheet r ≡ good v → (q : Question) × (readOf s ≡ good q) × AllSaid sheet (sheetFields sheet q a) × (verdictIn sheet ≡ v)
         go (good q) d e = let y = sheet-taken q a sheet v .0 e in (q, d, y .0, y .1)
         go (refused n p) d e = absurd (says-apart v n p (sym e))
 
-    back : Askable a × ((q : Question) × (readOf s ≡ good q) × AllSaid sheet (sheetFields sheet q a) × (verdictIn sheet ≡ v)) → checkFor a sheet (askedOf a s) ≡ good v
+    back : Askable a × ((q : Question) × (readOf s ≡ good q) × AllSaid sheet (sheetFields sheet q a) × (verdictIn sheet ≡ v)) → checkFor limits a sheet (askedOf a s) ≡ good v
     back h = elim (asked-cases a s) [
-      | inl x ↦ ap (checkFor a sheet) (x .1 ∙ h .1 .1) ∙ sheet-taken (h .1 .0) a sheet v .1 (h .1 .2, h .1 .3)
+      | inl x ↦ ap (checkFor limits a sheet) (x .1 ∙ h .1 .1) ∙ sheet-taken (h .1 .0) a sheet v .1 (h .1 .2, h .1 .3)
       | inr x ↦ absurd (x .0 (h .0))
     ]
 
 -- 21 is the only number of a sheet that isn't written though the question is good
-placed-long : (q : Question) (a : ℕ) (room : List ℕ) (p : ℕ) → (writeFor a room (good q) .answer ≡ refused 21 p) ↔ ((length room < length (sheetOf q a)) × (p ≡ 0))
+placed-long : (q : Question) (a : ℕ) (room : List ℕ) (p : ℕ) → (writeFor limits a room (good q) .answer ≡ refused 21 p) ↔ ((length room < length (sheetOf q a)) × (p ≡ 0))
 placed-long q a room p = go (leb (length (sheetOf q a)) (length room)) refl _ _ refl refl
   where
     go : (b : Bool) → leb (length (sheetOf q a)) (length room) ≡ b → (x y : Done) → x .answer ≡ good (verdictFor (findingOf q a), length (sheetOf q a)) → y .answer ≡ refused 21 0
@@ -187,15 +188,15 @@ placed-long q a room p = go (leb (length (sheetOf q a)) (length room)) refl _ _ 
     go false l x y d k = ((λ e. (leb-false (length (sheetOf q a)) (length room) l, sym (ap placeOf (sym k ∙ e)))), (λ h. k ∙ ap (refused 21) (sym (h .1))))
 
 pub too-long-exactly : TooLongExactly
-unfolding writeOf
+unfolding writeUnder
 too-long-exactly a s room p =
-    let x = good-first refused numberOf placeOf (λ n p. refl) (λ n p. refl) (λ r. writeFor a room r .answer) (λ n p. refl) (write-own a room) a s 21 p (omega arith) (λ e. omega arith) in (
+    let x = good-first refused numberOf placeOf (λ n p. refl) (λ n p. refl) (λ r. writeFor limits a room r .answer) (λ n p. refl) (write-own a room) a s 21 p (omega arith) (λ e. omega arith) in (
       (λ e. let y = x .0 e in let l = placed-long (y .1 .0) a room p .0 (y .1 .2) in (y .0, (y .1 .0, y .1 .1, l .0, l .1))),
       (λ h. x .1 (h .0, (h .1 .0, h .1 .1, placed-long (h .1 .0) a room p .1 (h .1 .2, h .1 .3)))),
     )
 
 pub first-bytes-answer : FirstBytesAnswer
-unfolding verdictOf writeOf checkOf
+unfolding verdictUnder writeUnder checkUnder
 first-bytes-answer a s l =
     let e : askedOf a s ≡ askedOf a (take (suc longest) s) = ap (λ r. cond (eqb a 1 || eqb a 2) r (refused 20 0)) (first-bytes-tell s l) in
-    (ap (judge a) e, (λ room. ap (writeFor a room) e), (λ sheet. ap (checkFor a sheet) e))
+    (ap (judge limits a) e, (λ room. ap (writeFor limits a room) e), (λ sheet. ap (checkFor limits a sheet) e))

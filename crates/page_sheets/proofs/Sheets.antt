@@ -24,7 +24,7 @@ use Rattle.page_formulas.proofs.Usability.{Exists, Usable, usable}
 use Rattle.page_questions.specs.Guarantees.{Every, Accepted}
 use Rattle.page_sheets.specs.Demands.{Meant, Broken, named, shownFirst, shownSecond}
 use Rattle.page_sheets.specs.Rows.{firstRow, secondRow, noBytes, fixed}
-use Rattle.page_sheets.specs.Sheet.{lastVertex, sayYes, sayNo, sheetFor, verdictFor, findingOf, sheetOf, checkSheet}
+use Rattle.page_sheets.specs.Sheet.{lastVertex, sayYes, sayNo, sheetFor, verdictFor, findingUnder, findingOf, sheetUnder, sheetOf, checkSheet}
 use Rattle.page_sheets.specs.Trees.{Finding, allShut, firstOpen, bytesAll}
 use Rattle.page_sheets.proofs.Counterparts.{agree-at, pairs-of}
 use Rattle.page_sheets.proofs.Findings.{Fails, yes-found, yes-sound, no-found, opens-at, not-all}
@@ -84,7 +84,7 @@ module _ (q : Question) (ok : Accepted q) (a : ℕ) where
   agrees = formulas-agree q (usable q ok) a
 
   pub sheet-passes : checkSheet q a (sheetOf q a) ≡ good (verdictFor (findingOf q a))
-  unfolding sheetOf findingOf
+  unfolding sheetUnder findingUnder
   sheet-passes = go (findingOf q a) refl
     where
       go : (f : Finding) → findingOf q a ≡ f → checkSheet q a (sheetFor q a f) ≡ good (verdictFor f)
@@ -98,7 +98,7 @@ module _ (q : Question) (ok : Accepted q) (a : ℕ) where
 
   -- ---- the verdict
   pub yes-fails : verdictFor (findingOf q a) ≡ sayYes → Every Fails (formulas q a)
-  unfolding findingOf
+  unfolding findingUnder
   yes-fails = go (findingOf q a) refl
     where
       go : (f : Finding) → findingOf q a ≡ f → verdictFor f ≡ sayYes → Every Fails (formulas q a)
@@ -106,7 +106,7 @@ module _ (q : Question) (ok : Accepted q) (a : ℕ) where
       go (firstOpen i G x) e v = let z : _≡_ {A = ℕ} 0 1 = cc in absurd (omega arith)
 
   pub fails-yes : Every Fails (formulas q a) → verdictFor (findingOf q a) ≡ sayYes
-  unfolding findingOf
+  unfolding findingUnder
   fails-yes h = go (findingOf q a) refl
     where
       go : (f : Finding) → findingOf q a ≡ f → verdictFor f ≡ sayYes

@@ -9,7 +9,7 @@ use Rattle.page_numbers.specs.Numbers.{minZ}
 use Rattle.page_meaning.specs.Contents.{inRange}
 use Rattle.page_walks.specs.Grid.{tighten, blank}
 use Rattle.page_questions.specs.Layout.{total, tablesOf, visibleFrom, questionFrom}
-use Rattle.page_questions.specs.Reader.{many, byte, int, columnAt, comparisonAt, tokenAt, conditionAt, rowAt, insertAt, deleteAt, modeAt, modifyAt, ending, fromChange, fromCondition, fromVisible, fromColumns, fromWidths, fromChanged, fromKind, fromTables, fromVersion, readOf}
+use Rattle.page_questions.specs.Reader.{many, byte, int, columnAt, comparisonAt, tokenAt, conditionAt, rowAt, insertAt, deleteAt, modeAt, modifyAt, ending, fromChange, fromCondition, fromVisible, fromColumns, fromWidths, fromChanged, fromKind, fromTables, fromVersion, readUnder}
 use Rattle.page_formulas.specs.Compilation.{compile}
 use Rattle.page_formulas.specs.Formulas.{among, after, hiddenRanges, boundedAll, differsOver, tabulate}
 use Rattle.page_formulas.specs.Knowledge.{run3}
@@ -18,8 +18,8 @@ use Rattle.page_sheets.specs.Facts.{confineAll}
 use Rattle.page_sheets.specs.Tree.{vertices, check}
 use Rattle.page_sheets.specs.Trees.{checkTrees}
 use Rattle.page_sheets.specs.Rows.{fixed}
-use Rattle.page_sheets.specs.Sheet.{Verdict, sayYes, sayNo, Answer, checkYes, checkFields, noEnd, checkRows, checkNo, checkSheet}
-use Rattle.page_sheets.specs.Answers.{checkOf}
+use Rattle.page_sheets.specs.Sheet.{Verdict, sayYes, sayNo, Answer, checkYes, checkFields, noEnd, checkRows, checkNo, checkSheetUnder}
+use Rattle.page_sheets.specs.Answers.{checkUnder, checkOf}
 use Rattle.page_sheets.specs.Twelve.{Claim, holds, shows, Case, bytesIn, numbers, sheetIn, twelve, agrees, test, testAll, Settled, TwelveSettled}
 use mathlib.Core.Logic.{inl, inr}
 use mathlib.Core.Bool.{_&&_}
@@ -29,7 +29,7 @@ use Rattle.page_sheets.specs.Demands.{Askable}
 use Rattle.page_sheets.proofs.Demands.{pass-yes-proves, pass-no-breaks, verdict-by}
 
 pub tested : T (testAll twelve)
-unfolding int32 le32 minZ inRange tighten blank total tablesOf visibleFrom questionFrom many byte int columnAt comparisonAt tokenAt conditionAt rowAt insertAt deleteAt modeAt modifyAt ending fromChange fromCondition fromVisible fromColumns fromWidths fromChanged fromKind fromTables fromVersion readOf compile among after hiddenRanges boundedAll differsOver tabulate run3 run places confineAll vertices check checkTrees fixed checkYes checkFields noEnd checkRows checkNo checkSheet checkOf bytesIn numbers twelve testAll
+unfolding int32 le32 minZ inRange tighten blank total tablesOf visibleFrom questionFrom many byte int columnAt comparisonAt tokenAt conditionAt rowAt insertAt deleteAt modeAt modifyAt ending fromChange fromCondition fromVisible fromColumns fromWidths fromChanged fromKind fromTables fromVersion readUnder compile among after hiddenRanges boundedAll differsOver tabulate run3 run places confineAll vertices check checkTrees fixed checkYes checkFields noEnd checkRows checkNo checkSheetUnder checkUnder bytesIn numbers twelve testAll
 tested = tt
 
 -- ---- from the test to the meaning

@@ -18,7 +18,7 @@ use Rattle.page_numbers.proofs.Bridge.{from-leZ, ints}
 use Rattle.page_numbers.proofs.Machine.{to-fits}
 use Rattle.page_meaning.specs.Condition.{equal, holds}
 use Rattle.page_meaning.specs.Contents.{Values, look, Range, inRange, fits, Question, columns, part}
-use Rattle.page_meaning.specs.Limits.{mostVertices}
+use Rattle.page_meaning.specs.Limits.{mostVertices, limits}
 use Rattle.page_meaning.proofs.MovedRows.{fits-length}
 use Rattle.page_meaning.proofs.Truth.{and-l, and-r, and-in}
 use Rattle.page_formulas.specs.Formulas.{Formula, among, formulas, assign, tabulate, noFormula}
@@ -26,7 +26,7 @@ use Rattle.page_formulas.specs.Program.{truth}
 use Rattle.page_formulas.proofs.Rows.{getD-after}
 use Rattle.page_questions.specs.Guarantees.{Every, RangeOk}
 use Rattle.page_sheets.specs.Rows.{valueAt, width, fields, bytesOfRow, fieldAt, firstRead, secondRead, inColumn, fixed, matches, fieldOk}
-use Rattle.page_sheets.specs.Sheet.{marked, lastVertex, Verdict, sayYes, sayNo, verdictByte, header, findingOf, yesEnd, checkYes, noEnd, checkRows, checkNo, checkBody, versioned, checkSheet}
+use Rattle.page_sheets.specs.Sheet.{marked, lastVertex, Verdict, sayYes, sayNo, verdictByte, header, findingUnder, findingOf, yesEnd, checkYes, noEnd, checkRows, checkNo, checkBody, versioned, checkSheetUnder, checkSheet}
 use Rattle.page_sheets.specs.Tree.{Tree}
 use Rattle.page_sheets.specs.Trees.{allShut, bytesAll}
 use Rattle.page_sheets.proofs.Fields.{field-passes, FieldsOk, fields-pass, field-first, field-second}
@@ -148,8 +148,8 @@ module _ (q : Question) (a i : ℕ) (G : Formula) (u w : Values) (r : Every Rang
       ∙ no-ends
 
 -- ---- the header
-pub header-passes : (q : Question) (a : ℕ) (v : Verdict) (rest : List ℕ) → checkSheet q a (header a v ++ rest) ≡ checkBody q a (header a v ++ rest) (verdictByte v)
-unfolding checkSheet
+pub header-passes : (q : Question) (a : ℕ) (v : Verdict) (rest : List ℕ) → checkSheet q a (header a v ++ rest) ≡ checkBody limits q a (header a v ++ rest) (verdictByte v)
+unfolding checkSheetUnder
 header-passes q a v rest =
     let s = header a v ++ rest in
     field-passes s 0 3 (marked s) 12 _ (omega arith) tt
@@ -163,5 +163,5 @@ header-passes q a v rest =
 
 -- ---- both
 pub yes-written : (q : Question) (a : ℕ) (ts : List Tree) → Every (Fit mostVertices) (formulas q a) → findingOf q a ≡ allShut ts → checkSheet q a (header a sayYes ++ bytesAll ts) ≡ good sayYes
-unfolding findingOf checkYes
+unfolding findingUnder checkYes
 yes-written q a ts p e = header-passes q a sayYes (bytesAll ts) ∙ ap yesEnd (yes-found lastVertex (formulas q a) p ts e 7)

@@ -10,3 +10,4 @@ pub mod Demands
 pub mod Twelve
 pub mod Faults
 pub mod Refusals
+pub mod RaisedLimits

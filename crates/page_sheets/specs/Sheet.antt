@@ -6,7 +6,7 @@ use lib.ListN.{length, getD, drop}
 use lib.Dec.{eqb, leb, ltb}
 use lib.IntN.{ℤ}
 use Rattle.page_numbers.specs.Outcome.{Outcome, good, refused}
-use Rattle.page_meaning.specs.Limits.{mostColumns, mostVertices}
+use Rattle.page_meaning.specs.Limits.{Limits, limits, verticesFor, mostColumns}
 use Rattle.page_meaning.specs.Contents.{Question}
 use Rattle.page_formulas.specs.Program.{truth}
 use Rattle.page_formulas.specs.Formulas.{noFormula, Formula, formulas}
@@ -46,13 +46,19 @@ abbrev pub verdictFor : Finding → Verdict
 verdictFor (allShut ts) = sayYes
 verdictFor (firstOpen i F x) = sayNo
 
--- what the writer finds for a question that was read
-unfoldable pub findingOf : Question → ℕ → Finding
-findingOf q a = writeTrees lastVertex (formulas q a)
+-- what the writer finds for a question that was read under some limits
+unfoldable pub findingUnder : Limits → Question → ℕ → Finding
+findingUnder l q a = writeTrees (2 * l .columns) (formulas q a)
 
 -- the writer's sheet
-unfoldable pub sheetOf : Question → ℕ → List ℕ
-sheetOf q a = sheetFor q a (findingOf q a)
+unfoldable pub sheetUnder : Limits → Question → ℕ → List ℕ
+sheetUnder l q a = sheetFor q a (findingUnder l q a)
+
+abbrev pub findingOf : Question → ℕ → Finding
+findingOf q a = findingUnder limits q a
+
+abbrev pub sheetOf : Question → ℕ → List ℕ
+sheetOf q a = sheetUnder limits q a
 
 -- ---- the check of a sheet for a question that was read
 
@@ -66,9 +72,9 @@ yesEnd (good (o, [])) = good sayYes
 yesEnd (good (o, b ∷ r)) = refused 16 0
 yesEnd (refused n o) = refused n o
 
--- FORMAT 8.2: one tree for each formula
-unfoldable pub checkYes : List Formula → List ℕ → Answer
-checkYes Fs s = yesEnd (checkTrees mostVertices Fs 7 (drop 7 s))
+-- FORMAT 8.2: one tree for each formula, over N vertex numbers
+unfoldable pub checkYes : ℕ → List Formula → List ℕ → Answer
+checkYes N Fs s = yesEnd (checkTrees N Fs 7 (drop 7 s))
 
 -- the values from field j on, so many
 unfoldable pub checkFields : (ℕ → ℤ → Bool) → List ℕ → ℕ → ℕ → Answer → Answer
@@ -87,9 +93,9 @@ checkRows q i F s = checkFields (fieldOk q i s) s (fields q F) 0 (noEnd q F s)
 unfoldable pub checkNo : Question → List Formula → List ℕ → Answer
 checkNo q Fs s = let i = getD s 7 0 in field s 7 1 (ltb i (length Fs)) 14 (checkRows q i (getD Fs i noFormula) s)
 
-abbrev pub checkBody : Question → ℕ → List ℕ → ℕ → Answer
-checkBody q a s zero = checkYes (formulas q a) s
-checkBody q a s (suc v) = checkNo q (formulas q a) s
+abbrev pub checkBody : Limits → Question → ℕ → List ℕ → ℕ → Answer
+checkBody l q a s zero = checkYes (verticesFor l) (formulas q a) s
+checkBody l q a s (suc v) = checkNo q (formulas q a) s
 
 -- FORMAT 6.1: the mark; the version
 abbrev pub marked : List ℕ → Bool
@@ -98,10 +104,13 @@ marked s = eqb (getD s 0 0) 86 && eqb (getD s 1 0) 85 && eqb (getD s 2 0) 83
 abbrev pub versioned : List ℕ → Bool
 versioned s = eqb (getD s 3 0 + 256 * getD s 4 0) 1
 
-unfoldable pub checkSheet : Question → ℕ → List ℕ → Answer
-checkSheet q a s =
+unfoldable pub checkSheetUnder : Limits → Question → ℕ → List ℕ → Answer
+checkSheetUnder l q a s =
     field s 0 3 (marked s) 12
     (field s 3 2 (versioned s) 13
     (field s 5 1 (eqb (getD s 5 0) a) 14
     (field s 6 1 (leb (getD s 6 0) 1) 14
-    (checkBody q a s (getD s 6 0)))))
+    (checkBody l q a s (getD s 6 0)))))
+
+abbrev pub checkSheet : Question → ℕ → List ℕ → Answer
+checkSheet q a s = checkSheetUnder limits q a s

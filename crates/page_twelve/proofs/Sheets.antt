@@ -10,7 +10,7 @@ use Rattle.page_formulas.proofs.ProperFormulas.{formulas-proper}
 use Rattle.page_questions.specs.Guarantees.{Every, Accepted}
 use Rattle.page_sheets.specs.Growth.{Growth, shut, openAt, growTree}
 use Rattle.page_sheets.specs.Rows.{putRow, secondRow, bytesOfRow, noBytes, Rowed}
-use Rattle.page_sheets.specs.Sheet.{lastVertex, header, sayNo, sheetFor, findingOf, sheetOf}
+use Rattle.page_sheets.specs.Sheet.{lastVertex, header, sayNo, sheetFor, findingUnder, sheetUnder, sheetOf}
 use Rattle.page_sheets.specs.Trees.{Finding, allShut, firstOpen, before, writeTrees}
 use Rattle.page_sheets.proofs.AlikeRows.{all-rowed, rows-alike}
 use Rattle.page_sheets.proofs.FastRule.{Here, Same}
@@ -61,5 +61,5 @@ module _ (q : Question) where
       ∙ ap₂ (λ k H. header a sayNo ++ noBytes q k H y) (h .0) (h .1)
 
   pub sheet-tabled : (a : ℕ) → Accepted q → sheetOf q a ≡ tableSheet q a
-  unfolding sheetOf findingOf tableSheet
+  unfolding sheetUnder findingUnder tableSheet
   sheet-tabled a ok = sheet-alike a (writeTrees lastVertex (formulas q a)) (tableTrees (formulas q a)) (trees-alike (formulas q a) (all-rowed q a) (formulas-proper q ok a))

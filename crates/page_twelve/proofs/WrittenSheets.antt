@@ -17,7 +17,7 @@ use Rattle.page_formulas.specs.Knowledge.{run3}
 use Rattle.page_formulas.specs.Program.{places}
 use Rattle.page_questions.specs.Guarantees.{Every}
 use Rattle.page_questions.specs.Layout.{total, tablesOf, visibleFrom, questionFrom}
-use Rattle.page_questions.specs.Reader.{Read, many, byte, int, columnAt, comparisonAt, tokenAt, conditionAt, rowAt, insertAt, deleteAt, modeAt, modifyAt, ending, fromChange, fromCondition, fromVisible, fromColumns, fromWidths, fromChanged, fromKind, fromTables, fromVersion, readOf}
+use Rattle.page_questions.specs.Reader.{Read, many, byte, int, columnAt, comparisonAt, tokenAt, conditionAt, rowAt, insertAt, deleteAt, modeAt, modifyAt, ending, fromChange, fromCondition, fromVisible, fromColumns, fromWidths, fromChanged, fromKind, fromTables, fromVersion, readUnder, readOf}
 use Rattle.page_questions.proofs.Guarantees.{accepted}
 use Rattle.page_sheets.specs.Facts.{confineAll}
 use Rattle.page_sheets.specs.Rows.{bytesOfRow}
@@ -51,7 +51,7 @@ testAll [] = true
 testAll (c ∷ cs) = test 1 (c .irrelevant) (readOf (c .question)) && test 2 (c .computable) (readOf (c .question)) && testAll cs
 
 tested : T (testAll twelve)
-unfolding int32 le32 bytes4 minZ tighten blank relax S.least S.first S.best S.test S.greedy S.start S.fewest S.walk S.search compile among after hiddenRanges boundedAll differsOver tabulate run3 places total tablesOf visibleFrom questionFrom many byte int columnAt comparisonAt tokenAt conditionAt rowAt insertAt deleteAt modeAt modifyAt ending fromChange fromCondition fromVisible fromColumns fromWidths fromChanged fromKind fromTables fromVersion readOf confineAll bytesOfRow bytesOf bytesAll bytesIn numbers rows table tableFast tableTree tableTrees tableSheet twelve testAll
+unfolding int32 le32 bytes4 minZ tighten blank relax S.least S.first S.best S.test S.greedy S.start S.fewest S.walk S.search compile among after hiddenRanges boundedAll differsOver tabulate run3 places total tablesOf visibleFrom questionFrom many byte int columnAt comparisonAt tokenAt conditionAt rowAt insertAt deleteAt modeAt modifyAt ending fromChange fromCondition fromVisible fromColumns fromWidths fromChanged fromKind fromTables fromVersion readUnder confineAll bytesOfRow bytesOf bytesAll bytesIn numbers rows table tableFast tableTree tableTrees tableSheet twelve testAll
 tested = tt
 
 -- ---- from the test to the sheet

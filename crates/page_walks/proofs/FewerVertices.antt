@@ -10,6 +10,7 @@ use lib.IntN.{ℤ, pos}
 use lib.Signed.{_≤ℤ_, _<ℤ_}
 use Rattle.page_numbers.specs.Numbers.{dn}
 use Rattle.page_numbers.proofs.Bridge.{ints}
+use Rattle.page_meaning.specs.Limits.{mostVertices}
 use Rattle.page_walks.specs.Walk.{Below, closed}
 use Rattle.page_walks.specs.Grid.{far}
 use Rattle.page_walks.specs.Sizes.{least-weight}
@@ -41,11 +42,11 @@ module _ (w : ℕ → ℕ → ℤ) (m : ℕ) (a : Alone w m) (floor : (u v : ℕ
   real-below u (x ∷ p) t r = (leaves u x (r .0), real-below x p t (r .1))
 
   -- a negative closed walk stays among 0 .. m
-  stays : (c : List ℕ) → length c ≤ 25 → closed w c <ℤ pos 0 → Below (suc m) c
+  stays : (c : List ℕ) → length c ≤ mostVertices → closed w c <ℤ pos 0 → Below (suc m) c
   stays [] l h = tt
   stays (v ∷ p) l h = real-below v p v (negative-real w floor v p (omega arith) h)
 
-  module _ (n : ℕ) (le : m ≤ n) (few : n < 25) where
+  module _ (n : ℕ) (le : m ≤ n) (few : n < mostVertices) where
     -- the shortest of the few is the shortest of all
     shortest-all : (c : List ℕ) → Shortest w m c → Shortest w n c
     shortest-all c s = record {
@@ -53,11 +54,11 @@ module _ (w : ℕ → ℕ → ℤ) (m : ℕ) (a : Alone w m) (floor : (u v : ℕ
       short = omega (arith, s .short);
       below = below-more (suc m) (suc n) c (omega arith) (s .below);
       negative = s .negative;
-      no-shorter = λ q l b h. shorter q l h (decLe (length q) 25);
+      no-shorter = λ q l b h. shorter q l h (decLe (length q) mostVertices);
       lex-least = λ q l b h. s .lex-least q l (stays q (omega (arith, s .short)) h) h;
     }
       where
-        shorter : (q : List ℕ) → 0 < length q → closed w q <ℤ pos 0 → Dec (length q ≤ 25) → length c ≤ length q
+        shorter : (q : List ℕ) → 0 < length q → closed w q <ℤ pos 0 → Dec (length q ≤ mostVertices) → length c ≤ length q
         shorter q l h (yes k) = s .no-shorter q l (stays q k h) h
         shorter q l h (no k) = omega (arith, s .short)
 

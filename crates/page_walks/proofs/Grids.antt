@@ -1,6 +1,6 @@
 -- Laws of the grid: what a tightened edge changes, and that no closed walk below zero uses a missing edge.
 use Prim.Native.Nat.{ℕ, zero, suc, _+_, _*_, _≤_, _<_}
-use mathlib.Core.Path.{_≡_, refl, sym, ap, ap₂, _∙_, subst}
+use mathlib.Core.Path.{_≡_, refl, sym, ap, ap₂, _∙_, subst, fun-ext}
 use mathlib.Core.Logic.{_⊎_, inl, inr}
 use mathlib.Core.Bool.{Bool, true, false, not}
 use mathlib.Core.List.{List, [], _∷_}
@@ -13,6 +13,7 @@ use lib.Dec.{T}
 use lib.Signed.{_≤ℤ_, _<ℤ_, ltZ, ltZ-yes, ltZ-no, ≤ℤ-refl}
 use Rattle.page_numbers.specs.Numbers.{up, dn, minZ}
 use Rattle.page_numbers.proofs.Bridge.{ints, +law, min-spec}
+use Rattle.page_meaning.specs.Limits.{mostVertices}
 use Rattle.page_walks.specs.Walk.{from}
 use Rattle.page_walks.specs.Grid.{farN, far, Grid, row, weight, tighten, blank}
 use Rattle.page_walks.specs.Sizes.{least-weight, Sized}
@@ -65,12 +66,31 @@ tighten-sized N g u v k s = record { rows = length-set g u new ∙ s .rows; colu
     go a h (yes e) = let hu : u < N = omega arith in rw (e, getD-set-same g u new [] (omega (arith, s .rows))) (length-set (row g u) v (minZ (weight g u v) k) ∙ s .columns u hu)
     go a h (no f) = ap length (getD-set-other g u a new [] f) ∙ s .columns a h
 
-pub tighten-new : (N : ℕ) (g : Grid) (u v : ℕ) (k : ℤ) → Sized N g → u < N → v < N → weight (tighten g u v k) u v ≤ℤ k
+-- the edge that is tightened
+pub tighten-at : (N : ℕ) (g : Grid) (u v : ℕ) (k : ℤ) → Sized N g → u < N → v < N → weight (tighten g u v k) u v ≡ minZ (weight g u v) k
 unfolding tighten
-tighten-new N g u v k s hu hv =
+tighten-at N g u v k s hu hv =
     let m = minZ (weight g u v) k in
-    let e : weight (set g u (set (row g u) v m)) u v ≡ m = ap (λ r. getD r v far) (getD-set-same g u (set (row g u) v m) [] (omega (arith, s .rows))) ∙ getD-set-same (row g u) v m far (omega (arith, s .columns u hu)) in
-    rw e (min-spec (weight g u v) k .1)
+    ap (λ r. getD r v far) (getD-set-same g u (set (row g u) v m) [] (omega (arith, s .rows))) ∙ getD-set-same (row g u) v m far (omega (arith, s .columns u hu))
+
+-- and any other
+pub tighten-beside : (g : Grid) (u v : ℕ) (k : ℤ) (a b : ℕ) → ¬ ((a ≡ u) × (b ≡ v)) → weight (tighten g u v k) a b ≡ weight g a b
+tighten-beside g u v k a b other = elim (tighten-is g u v k a b) [ inl d ↦ d | inr d ↦ absurd (other (d .0, d .1)) ]
+
+pub tighten-new : (N : ℕ) (g : Grid) (u v : ℕ) (k : ℤ) → Sized N g → u < N → v < N → weight (tighten g u v k) u v ≤ℤ k
+tighten-new N g u v k s hu hv = rw (tighten-at N g u v k s hu hv) (min-spec (weight g u v) k .1)
+
+-- grids of two sizes with the same weights keep the same weights
+pub tighten-alike : (N M : ℕ) (g h : Grid) (u v : ℕ) (k : ℤ) → Sized N g → Sized M h → (u < N) × (v < N) → (u < M) × (v < M) → weight g ≡ weight h → weight (tighten g u v k) ≡ weight (tighten h u v k)
+tighten-alike N M g h u v k s t i j e = fun-ext (λ a. fun-ext (λ b. go a b (ℕ-discrete a u) (ℕ-discrete b v)))
+  where
+    beside : (a b : ℕ) → ¬ ((a ≡ u) × (b ≡ v)) → weight (tighten g u v k) a b ≡ weight (tighten h u v k) a b
+    beside a b other = tighten-beside g u v k a b other ∙ ap (λ w. w a b) e ∙ sym (tighten-beside h u v k a b other)
+
+    go : (a b : ℕ) → Dec (a ≡ u) → Dec (b ≡ v) → weight (tighten g u v k) a b ≡ weight (tighten h u v k) a b
+    go a b (yes d) (yes c) = rw (d, c) (tighten-at N g u v k s (i .0) (i .1) ∙ ap (λ w. minZ (w u v) k) e ∙ sym (tighten-at M h u v k t (j .0) (j .1)))
+    go a b (no f) d = beside a b (λ x. f (x .0))
+    go a b (yes d) (no f) = beside a b (λ x. f (x .1))
 
 pub blank-sized : (N : ℕ) → Sized N (blank N)
 unfolding blank
@@ -105,7 +125,7 @@ module _ (w : ℕ → ℕ → ℤ) (floor : (u v : ℕ) → dn (w u v) ≤ least
   missing-from u (x ∷ p) t (inl m) = omega (ints, from-floor x p t, +law (w u x) (from w x p t))
   missing-from u (x ∷ p) t (inr m) = omega (ints, floor u x, missing-from x p t m, +law (w u x) (from w x p t))
 
-  pub missing-closed : (v : ℕ) (p : List ℕ) → length p < 25 → Misses v p v → pos 0 ≤ℤ from w v p v
+  pub missing-closed : (v : ℕ) (p : List ℕ) → length p < mostVertices → Misses v p v → pos 0 ≤ℤ from w v p v
   missing-closed v p l m = omega (ints, missing-from v p v m)
 
 -- ---- a closed walk below zero goes along facts: none of its edges is missing
@@ -126,5 +146,5 @@ real-or-misses w floor u (x ∷ p) t = go (ltZ (w u x) far) (λ h. ltZ-yes h) (�
     go true f g (inr m) = inr (inr m)
     go false f g r = inr (inl (g tt))
 
-pub negative-real : (w : ℕ → ℕ → ℤ) (floor : (u v : ℕ) → dn (w u v) ≤ least-weight) (v : ℕ) (p : List ℕ) → length p < 25 → from w v p v <ℤ pos 0 → Real w v p v
+pub negative-real : (w : ℕ → ℕ → ℤ) (floor : (u v : ℕ) → dn (w u v) ≤ least-weight) (v : ℕ) (p : List ℕ) → length p < mostVertices → from w v p v <ℤ pos 0 → Real w v p v
 negative-real w floor v p l h = elim (real-or-misses w floor v p v) [ inl r ↦ r | inr m ↦ absurd (omega (ints, missing-closed w floor v p l m)) ]

@@ -4,7 +4,7 @@ ghost use mathlib.Core.Path.{_≡_};
 ghost use mathlib.Core.List.{map};
 ghost use lib.ListN.{length, take};
 ghost use Rattle.page_numbers.specs.Outcome.{refused};
-ghost use Rattle.page_meaning.specs.Limits.{mostTables, mostColumns, mostTokens};
+ghost use Rattle.page_meaning.specs.Limits.{mostTables, mostColumns, mostTokens, limits};
 ghost use Rattle.page_questions.specs.Reader.{ending, fromChange, fromCondition, fromVisible, fromColumns, fromWidths, fromChanged, fromKind, fromTables, fromVersion};
 ghost use Rattle.question.specs.Held.{Reads, ShapeHeld, ChangeHeld, questionOf, widthsOf, columnOf, conditionOf};
 use changes::change::change_at;
@@ -146,7 +146,7 @@ fn from_columns(s: &[u8], kind: u8, shape: Shape, p: usize) -> Reading
 fn from_widths(s: &[u8], tables: usize, kind: u8, changed: usize, p: usize) -> Reading
     requires { ⌜ tables ≤ mostTables ⌝ }
     requires { ⌜ changed < tables ⌝ }
-    ensures { λ r. ⌜ Reads r (fromWidths (now (s .entry)) tables kind changed p) ⌝ }
+    ensures { λ r. ⌜ Reads r (fromWidths limits (now (s .entry)) tables kind changed p) ⌝ }
 {
     let read = widths_at(s, tables, p);
     let answer = read.answer;
@@ -162,7 +162,7 @@ fn from_widths(s: &[u8], tables: usize, kind: u8, changed: usize, p: usize) -> R
 
 fn from_changed(s: &[u8], tables: usize, kind: u8, p: usize) -> Reading
     requires { ⌜ tables ≤ mostTables ⌝ }
-    ensures { λ r. ⌜ Reads r (fromChanged (now (s .entry)) tables kind p) ⌝ }
+    ensures { λ r. ⌜ Reads r (fromChanged limits (now (s .entry)) tables kind p) ⌝ }
 {
     let b = byte_at(s, 4, 0, tables, p);
     match b {
@@ -173,7 +173,7 @@ fn from_changed(s: &[u8], tables: usize, kind: u8, p: usize) -> Reading
 
 fn from_kind(s: &[u8], tables: usize, p: usize) -> Reading
     requires { ⌜ tables ≤ mostTables ⌝ }
-    ensures { λ r. ⌜ Reads r (fromKind (now (s .entry)) tables p) ⌝ }
+    ensures { λ r. ⌜ Reads r (fromKind limits (now (s .entry)) tables p) ⌝ }
 {
     let b = byte_at(s, 4, 1, 4, p);
     match b {
@@ -183,7 +183,7 @@ fn from_kind(s: &[u8], tables: usize, p: usize) -> Reading
 }
 
 fn from_tables(s: &[u8], p: usize) -> Reading
-    ensures { λ r. ⌜ Reads r (fromTables (now (s .entry)) p) ⌝ }
+    ensures { λ r. ⌜ Reads r (fromTables limits (now (s .entry)) p) ⌝ }
 {
     let b = byte_at(s, 4, 1, PAST_TABLES, p);
     match b {
@@ -193,7 +193,7 @@ fn from_tables(s: &[u8], p: usize) -> Reading
 }
 
 pub fn from_version(s: &[u8]) -> Reading
-    ensures { λ r. ⌜ Reads r (fromVersion (now (s .entry))) ⌝ }
+    ensures { λ r. ⌜ Reads r (fromVersion limits (now (s .entry))) ⌝ }
 {
     if s.len() < 5 {
         return refusal(1, 3);

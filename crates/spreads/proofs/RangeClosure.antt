@@ -1,13 +1,15 @@
 -- The closure of the ranges in closed form, from the code's arrays: the laws of `RangeClosure` in page_sheets hold of it.
-use Prim.Native.Nat.{ℕ, zero, suc, _≤_, _<_}
-use mathlib.Core.Path.{_≡_, refl, _∙_, subst}
+use Prim.Native.Nat.{ℕ, zero, suc, _+_, _≤_, _<_}
+use mathlib.Core.Path.{_≡_, refl, sym, ap, _∙_, subst}
 use mathlib.Core.Logic.{_≢_}
 use mathlib.Core.Bool.{Bool, true, false, cond}
 use mathlib.Core.Option.{Option, none, some}
-use mathlib.Core.List.{List}
+use mathlib.Core.List.{List, []}
 use native.Mathlib.Omega.{arith}
+use native.Mathlib.Decide.{ℕ-discrete}
 use lib.Dec.{eqb, eqb→eq, eqb-refl}
-use lib.ListN.{getD}
+use lib.ListN.{length, getD, set, replicate, length-set, length-replicate, getD-replicate}
+use lib.Seq.{getD-set-same, getD-set-other}
 use lib.IntN.{ℤ, pos, _-ℤ_}
 use lib.Signed.{_≤ℤ_}
 use mir.Syntax.{w64}
@@ -16,9 +18,11 @@ use Rattle.page_numbers.specs.Numbers.{up, dn}
 use Rattle.page_numbers.proofs.Bridge.{ints}
 use Rattle.page_numbers.proofs.Machine.{machine, diff}
 use Rattle.page_meaning.specs.Contents.{Range}
-use Rattle.page_walks.specs.Grid.{Grid, weight, far}
+use Rattle.page_walks.specs.Grid.{Grid, row, weight, far}
 use Rattle.page_walks.specs.Nearness.{Least}
+use Rattle.page_walks.specs.Sizes.{Sized, filled}
 use Rattle.page_walks.specs.Walk.{Sat}
+use Rattle.page_walks.proofs.Rows.{filled-length, filled-at, there}
 use Rattle.page_formulas.specs.Program.{Values}
 use Rattle.page_formulas.specs.Vertices.{Ranges, InRange, isSome}
 use Rattle.page_formulas.specs.ProperFormulas.{billion}
@@ -41,6 +45,40 @@ end-there flags ends (suc v) z f e d = rw e d
 pub end-none : (flags : List Bool) (ends : List ℤ) (v : ℕ) → ¬ (v ≡ 0) → getD flags v false ≡ false → pos 0 ≡ endOf flags ends v
 end-none flags ends zero f e = absurd (f refl)
 end-none flags ends (suc v) f e = rw e
+
+-- ---- a row, and then 0 at its own vertex
+
+module _ (f : ℕ → ℤ) (n : ℕ) (l : List ℤ) (u : ℕ) where
+  pub diagonal-long : length (set (filled f n l) u (pos 0)) ≡ length l
+  diagonal-long = length-set (filled f n l) u (pos 0) ∙ filled-length f n l
+
+  pub diagonal : (v : ℕ) → v < n → n ≤ length l → getD (set (filled f n l) u (pos 0)) v (pos 0) ≡ cond (eqb u v) (pos 0) (f v)
+  diagonal v hv h = go (ℕ-discrete u v)
+    where
+      go : Dec (u ≡ v) → getD (set (filled f n l) u (pos 0)) v (pos 0) ≡ cond (eqb u v) (pos 0) (f v)
+      go (yes e) = rw (e, to-true (eqb v v) (eqb-refl v)) (getD-set-same (filled f n l) v (pos 0) (pos 0) (omega (arith, filled-length f n l)))
+      go (no e) = rw (to-false (eqb u v) (λ t. e (eqb→eq u v t))) (getD-set-other (filled f n l) u v (pos 0) (pos 0) (λ d. e (sym d)) ∙ filled-at f n l v (pos 0) hv h)
+
+-- ---- a grid with one row more written
+
+-- before the first
+pub zeros-sized : (N : ℕ) → Sized N (replicate N (replicate N (pos 0)))
+zeros-sized N = record { rows = length-replicate N (replicate N (pos 0)); columns = λ u h. ap length (getD-replicate N u (replicate N (pos 0)) [] h) ∙ length-replicate N (pos 0) }
+
+module _ (N : ℕ) (g : Grid) (u : ℕ) (new : List ℤ) (s : Sized N g) (hu : u < N) (long : length new ≡ N) where
+  pub row-sized : Sized N (set g u new)
+  row-sized = record { rows = length-set g u new ∙ s .rows; columns = λ r h. go r h (ℕ-discrete r u) }
+    where
+      go : (r : ℕ) → r < N → Dec (r ≡ u) → length (row (set g u new) r) ≡ N
+      go r h (yes e) = rw e (ap length (getD-set-same g u new [] (omega (arith, s .rows))) ∙ long)
+      go r h (no e) = ap length (getD-set-other g u r new [] e) ∙ s .columns r h
+
+  pub row-more : (f : ℕ → ℕ → ℤ) (n : ℕ) → n ≤ N → ((r v : ℕ) → r < u → v < n → weight g r v ≡ f r v) → ((v : ℕ) → v < n → getD new v (pos 0) ≡ f u v) → (r v : ℕ) → r < u + 1 → v < n → weight (set g u new) r v ≡ f r v
+  row-more f n few old is r v hr hv = go (ℕ-discrete r u)
+    where
+      go : Dec (r ≡ u) → weight (set g u new) r v ≡ f r v
+      go (yes e) = rw e (ap (λ l. getD l v far) (getD-set-same g u new [] (omega (arith, s .rows))) ∙ there new v far (pos 0) (omega arith) ∙ is v hv)
+      go (no e) = ap (λ l. getD l v far) (getD-set-other g u r new [] e) ∙ old r v (omega arith) hv
 
 module _ (count : ℕ) (flags : List Bool) (lo hi : List ℤ) (r : Ranged count flags lo hi) where
   abbrev low : ℕ → ℤ

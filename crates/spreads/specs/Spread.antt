@@ -11,5 +11,9 @@ abbrev pub endOf : List Bool → List ℤ → ℕ → ℤ
 endOf flags ends zero = pos 0
 endOf flags ends (suc v) = cond (getD flags (suc v) false) (getD ends (suc v) (pos 0)) (pos 0)
 
+-- from v's highest value and u's lowest
+abbrev pub apart : ℤ → ℤ → ℕ → ℕ → ℤ
+apart high low u v = cond (eqb u v) (pos 0) (high -ℤ low)
+
 abbrev pub spread : List Bool → List ℤ → List ℤ → ℕ → ℕ → ℤ
-spread flags lo hi u v = cond (eqb u v) (pos 0) (endOf flags hi v -ℤ endOf flags lo u)
+spread flags lo hi u v = apart (endOf flags hi v) (endOf flags lo u) u v

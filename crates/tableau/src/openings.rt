@@ -45,17 +45,21 @@ pub fn formula_opens<'a>(
     requires { ⌜ Fine (formulaOf (now kinds) (now left) (now right) (now most) o) ⌝ }
     ensures { λ r. ⌜ ((F : Formula) → Compiled (formulaOf (now (kinds .entry)) (now (left .entry)) (now (right .entry)) (now (most .entry)) o) F → Proper F → Opens (r .open) (r .values) (TrueAt F)) ⌝ }
 {
-    let v = o.vertices;
-    let flags = v.present;
-    let lo = v.lo;
-    let hi = v.hi;
-    let mut near = begin(v.count, flags, lo, hi);
+    let count = o.vertices.count;
+    let mut near = [[0i64; VERTICES]; VERTICES];
+    begin(
+        &mut near,
+        count,
+        &o.vertices.present,
+        &o.vertices.lo,
+        &o.vertices.hi,
+    );
     let mut nodes = [[0u16; ROW]; INSTRUCTIONS];
     let mut weights = [0i64; INSTRUCTIONS];
     lay(kinds, left, right, most, o.count, &mut nodes, &mut weights);
     let ext = Extent {
         count: o.count,
-        last: v.count - 1,
+        last: count - 1,
     };
     opens_under(&nodes, &weights, ext, &mut near)
 }

@@ -16,14 +16,14 @@ use Rattle.page_questions.proofs.FieldLaws.{is-within}
 
 -- i widths were read, of n
 pub record WidthRun (s : List ℕ) (n p : ℕ) (widths : List ℕ) (sum next i : ℕ) : Type 0 where
-  pub going : Going (widthAt s) (λ (w : ℕ). w) mostTables n (many (widthAt s) n [] p) widths i next
+  pub going : Going (widthAt mostColumns s) (λ (w : ℕ). w) mostTables n (many (widthAt mostColumns s) n [] p) widths i next
   pub sums : sum ≡ total (take i widths)
   pub small : sum ≤ mostColumns
   pub each : (j : ℕ) → j < i → 1 ≤ getD widths j 0
 
 module _ (s : List ℕ) (n p : ℕ) (widths : List ℕ) (sum next i : ℕ) (run : WidthRun s n p widths sum next i) where
   -- the field that the code reads as a width
-  pub this-width : byte s 4 1 (suc mostColumns - sum) next ≡ widthAt s (map (λ (w : ℕ). w) (take i widths)) next
+  pub this-width : byte s 4 1 (suc mostColumns - sum) next ≡ widthAt mostColumns s (map (λ (w : ℕ). w) (take i widths)) next
   this-width =
       let e : total (map (λ (w : ℕ). w) (take i widths)) ≡ sum = ap total (map-id (take i widths)) ∙ sym (run .sums) in
       let k : suc mostColumns - sum ≡ suc (mostColumns - total (map (λ (w : ℕ). w) (take i widths))) = omega (arith, e, run .small) in

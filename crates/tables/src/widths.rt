@@ -3,7 +3,7 @@ ghost use Prim.Native.Nat.{_≤_, _<_};
 ghost use mathlib.Core.Path.{_≡_};
 ghost use mathlib.Core.List.{[]};
 ghost use lib.ListN.{take};
-ghost use Rattle.page_meaning.specs.Limits.{mostTables};
+ghost use Rattle.page_meaning.specs.Limits.{mostTables, mostColumns};
 ghost use Rattle.page_questions.specs.Layout as layout;
 ghost use Rattle.page_questions.specs.Reader.{widthAt, many};
 ghost use Rattle.tables.specs.Shapes.{MeansWidths, Counted};
@@ -25,7 +25,7 @@ pub struct WidthsRead {
 
 pub fn widths_at(s: &[u8], n: usize, p: usize) -> WidthsRead
     requires { ⌜ n ≤ mostTables ⌝ }
-    ensures { λ r. ⌜ MeansWidths n r (many (widthAt (now (s .entry))) n [] p) ⌝ }
+    ensures { λ r. ⌜ MeansWidths n r (many (widthAt mostColumns (now (s .entry))) n [] p) ⌝ }
 {
     let mut widths = [0usize; TABLES];
     let mut total = 0;

@@ -12,7 +12,7 @@ use Rattle.page_formulas.specs.Formulas.{Formula, noFormula, formulas}
 use Rattle.page_formulas.specs.Program.{truth}
 use Rattle.formula.specs.Formulas.{formulaAt}
 use Rattle.formula.proofs.ProperFormulas.{proper-at}
-use Rattle.page_sheets.specs.Sheet.{lastVertex, sayYes, sayNo, verdictFor, findingOf}
+use Rattle.page_sheets.specs.Sheet.{lastVertex, sayYes, sayNo, verdictFor, findingUnder, findingOf}
 use Rattle.page_sheets.specs.Tree.{Tree}
 use Rattle.page_sheets.specs.Trees.{Finding, allShut, firstOpen}
 use Rattle.page_sheets.proofs.Findings.{Fails}
@@ -46,14 +46,14 @@ module _ (q : Question) (ok : Accepted q) (a : ℕ) where
         (w .0 ++ s .0 ∷ [], subst (λ n. ShutBefore lastVertex Fs n (w .0 ++ s .0 ∷ [])) (sym (add-one i)) (shut-more lastVertex Fs i (w .0) noFormula (s .0) (w .1) h (s .1)))
 
     pub found-first : answer ≡ true → (r : Found) → r .open ≡ true → r .number ≡ i → Finds (findingOf q a) r
-    unfolding findingOf
+    unfolding findingUnder
     found-first e r ro rn =
         let t = subst (λ b. Opens b l (TrueAt (formulaAt Fs i))) e o in
         let x = holds-open lastVertex (formulaAt Fs i) (fit (formulaAt Fs i) (proper-at q ok a i h)) (held l) (t .0) (t .1) in
         rw (found-open lastVertex Fs i (w .0) noFormula (x .0) (w .1) h (x .1)) (ro, rn)
 
   pub found-none : (i : ℕ) → Passed i → i ≡ length Fs → (r : Found) → r .open ≡ false → Finds (findingOf q a) r
-  unfolding findingOf
+  unfolding findingUnder
   found-none i w e r ro = rw (found-shut lastVertex Fs (w .0) (subst (λ n. ShutBefore lastVertex Fs n (w .0)) e (w .1))) ro
 
 -- ---- the verdict

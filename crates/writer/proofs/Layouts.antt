@@ -7,7 +7,7 @@ use native.Mathlib.Omega.{arith}
 use native.Mathlib.Decide.{decLe}
 use lib.ListN.{length}
 use Rattle.page_meaning.specs.Contents.{Question}
-use Rattle.page_sheets.specs.Sheet.{sayYes, sayNo, verdictFor, findingOf, sheetOf}
+use Rattle.page_sheets.specs.Sheet.{sayYes, sayNo, verdictFor, findingOf, sheetUnder, sheetOf}
 use Rattle.page_sheets.specs.Trees.{Finding, allShut, firstOpen}
 use Rattle.outcome.specs.Answers.{verdictOf}
 use Rattle.outcome.specs.declared.Verdict.{Verdict}
@@ -52,7 +52,7 @@ module _ (q : Question) (a : ℕ) where
 
   -- what stands in the room then
   pub lays : (v : Verdict) → verdictOf v ≡ verdictFor (findingOf q a) → (old new : List ℕ) (s : Spot) → filling new s ≡ puts (filling old atStart) (sheetOf q a) → Lays old q a (findingOf q a) new (record { verdict = v; spot = s })
-  unfolding sheetOf
+  unfolding sheetUnder
   lays v says old new s e = record { says = says; long = laid-length old _ new s e; stands = laid-stands old _ new s e }
 
   pub says-no : (i : ℕ) → OpenFirst q a i → sayNo ≡ verdictFor (findingOf q a)

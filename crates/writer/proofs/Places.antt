@@ -10,14 +10,14 @@ use Rattle.page_numbers.specs.Outcome.{good, refused}
 use Rattle.page_meaning.specs.Contents.{Question}
 use Rattle.outcome.specs.Answers.{verdictOf}
 use Rattle.page_sheets.specs.Answers.{placed}
-use Rattle.page_sheets.specs.Sheet.{verdictFor, findingOf, sheetOf}
+use Rattle.page_sheets.specs.Sheet.{verdictFor, findingOf, sheetUnder, sheetOf}
 use Rattle.page_sheets.proofs.Fit.{to-true, to-false}
 use Rattle.writer.specs.Layouts.{StandsIf, Lays}
 use Rattle.writer.specs.declared.SheetEnd.{SheetEnd}
 
 module _ (q : Question) (a : ℕ) (old new : List ℕ) (r : SheetEnd) (h : Lays old q a (findingOf q a) new r) where
   stands : (b : Bool) → r .spot .over ≡ b → StandsIf b (sheetOf q a) new (r .spot .at)
-  unfolding sheetOf
+  unfolding sheetUnder
   stands b e = subst (λ o. StandsIf o (sheetOf q a) new (r .spot .at)) e (h .stands)
 
   pub fits-in : r .spot .over ≡ false → r .spot .at ≤ length new

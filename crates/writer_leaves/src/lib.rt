@@ -113,11 +113,15 @@ pub fn first_leaf<'a>(
     requires { ⌜ FineOpen (formulaOf (now kinds) (now left) (now right) (now most) o) ⌝ }
     ensures { λ r. ⌜ ((F : written.Formula) (x : Values) → Compiled (formulaOf (now (kinds .entry)) (now (left .entry)) (now (right .entry)) (now (most .entry)) o) F → Proper F → growTree lastVertex F ≡ openAt x → Leaf (λ v. T (present (F .ranges) v)) x r) ⌝ }
 {
-    let v = o.vertices;
-    let flags = v.present;
-    let lo = v.lo;
-    let hi = v.hi;
-    let near = begin(v.count, flags, lo, hi);
+    let count = o.vertices.count;
+    let mut near = [[0i64; VERTICES]; VERTICES];
+    begin(
+        &mut near,
+        count,
+        &o.vertices.present,
+        &o.vertices.lo,
+        &o.vertices.hi,
+    );
     let n = o.count;
     let few = o.places;
     let mut nodes = [[0u16; ROW]; INSTRUCTIONS];
@@ -125,7 +129,7 @@ pub fn first_leaf<'a>(
     lay(kinds, left, right, most, n, &mut nodes, &mut weights);
     let ext = Extent {
         count: n,
-        last: v.count - 1,
+        last: count - 1,
     };
     let ks: &[u8] = kinds;
     let ls: &[u8] = left;

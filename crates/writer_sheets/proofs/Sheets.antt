@@ -21,7 +21,7 @@ use Rattle.formula.specs.Formulas.{formulaAt}
 use Rattle.formula.proofs.ProperFormulas.{proper-at}
 use Rattle.page_sheets.specs.Growth.{openAt, growTree}
 use Rattle.page_sheets.specs.Rows.{noBytes, Rowed}
-use Rattle.page_sheets.specs.Sheet.{lastVertex, header, sayYes, sayNo, sheetFor, findingOf, sheetOf}
+use Rattle.page_sheets.specs.Sheet.{lastVertex, header, sayYes, sayNo, sheetFor, findingUnder, findingOf, sheetUnder, sheetOf}
 use Rattle.page_sheets.specs.Tree.{Tree}
 use Rattle.page_sheets.specs.Trees.{allShut, bytesAll}
 use Rattle.page_sheets.proofs.Positions.{open-there}
@@ -52,7 +52,7 @@ module _ (q : Question) (ok : Accepted q) (a : ℕ) where
   -- ---- the first open formula
   module _ (i : ℕ) (o : OpenFirst q a i) where
     there : (i < length (formulas q a)) × (getD (formulas q a) i noFormula ≡ o .formula) × (growTree lastVertex (o .formula) ≡ openAt (o .values))
-    unfolding findingOf
+    unfolding findingUnder
     there = open-there lastVertex (formulas q a) i (o .formula) (o .values) (o .finding) noFormula
 
     pub number-there : i < length (formulas q a)
@@ -71,7 +71,7 @@ module _ (q : Question) (ok : Accepted q) (a : ℕ) where
         → (old mid new : List ℕ) (s₁ s : Spot) → filling mid s₁ ≡ puts (filling old atStart) (header a sayNo)
         → ((F : Formula) (x : Values) → F .pairs ≡ f .pairs → Rowed q F → Carries (F .ranges) values x → filling new s ≡ puts (filling mid s₁) (noBytes q i F x))
         → filling new s ≡ puts (filling old atStart) (sheetOf q a)
-    unfolding sheetOf fine-open
+    unfolding sheetUnder fine-open
     sheet-no f is values leaf old mid new s₁ s h w =
         let F = formulaAt (formulas q a) i in
         let x = o .values in
@@ -83,5 +83,5 @@ module _ (q : Question) (ok : Accepted q) (a : ℕ) where
   pub sheet-yes : AllShut q a → (old mid new : List ℕ) (s₁ s : Spot) → filling mid s₁ ≡ puts (filling old atStart) (header a sayYes)
       → ((ts : List Tree) → findingOf q a ≡ allShut ts → filling new s ≡ puts (filling mid s₁) (bytesAll ts))
       → filling new s ≡ puts (filling old atStart) (sheetOf q a)
-  unfolding sheetOf
+  unfolding sheetUnder
   sheet-yes (ts, e) old mid new s₁ s h w = w ts e ∙ ap (λ g. puts g (bytesAll ts)) h ∙ sym (puts-append (filling old atStart) (header a sayYes) (bytesAll ts)) ∙ ap (puts (filling old atStart)) (sym (ap (sheetFor q a) e))

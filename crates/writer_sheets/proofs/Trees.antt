@@ -9,7 +9,7 @@ use Rattle.page_meaning.specs.Contents.{Question}
 use Rattle.page_formulas.specs.Formulas.{Formula, noFormula, formulas}
 use Rattle.formula.specs.Formulas.{formulaAt}
 use Rattle.page_sheets.specs.Growth.{growTree}
-use Rattle.page_sheets.specs.Sheet.{lastVertex, findingOf}
+use Rattle.page_sheets.specs.Sheet.{lastVertex, findingUnder, findingOf}
 use Rattle.page_sheets.specs.Tree.{Tree, bytesOf}
 use Rattle.page_sheets.specs.Trees.{allShut, writeTrees, bytesAll}
 use Rattle.page_sheets.proofs.Positions.{ShutBefore, shut-more, found-shut, shut-there, first-trees, bytes-append, bytes-more}
@@ -35,7 +35,7 @@ module _ (q : Question) (a : ℕ) where
 
     module _ (i : ℕ) (room : List ℕ) (next : Spot) (w : Sown i room next) (ts : List Tree) (all : findingOf q a ≡ allShut ts) where
       written : writeTrees lastVertex Fs ≡ allShut ts
-      unfolding findingOf
+      unfolding findingUnder
       written = all
 
       -- one tree more

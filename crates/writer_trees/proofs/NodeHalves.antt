@@ -1,32 +1,35 @@
 -- One node of the writer's recursion: what the code leaves there is what the fast rule comes to.
 use Prim.Native.Nat.{ℕ, zero, suc, _-_, _≤_, _<_}
 use mathlib.Core.Path.{_≡_, refl, sym, ap, ap₂, _∙_, subst}
-use mathlib.Core.Bool.{Bool, true, false}
-use mathlib.Core.Option.{Option}
+use mathlib.Core.Bool.{Bool, true, false, cond}
 use mathlib.Core.List.{List, [], _∷_}
 use native.Mathlib.Omega.{arith}
 use lib.ListN.{length, getD, drop}
 use lib.IntN.{ℤ, pos, _+ℤ_}
 use lib.Signed.{ltZ}
+use denote.Enum.Declared.{tagOf}
+use types.Run.{OneOf}
 use Rattle.page_meaning.specs.Limits.{mostVertices}
 use Rattle.page_walks.specs.Grid.{Grid, weight, tighten}
 use Rattle.page_walks.specs.Sizes.{Sized}
-use Rattle.page_walks.specs.Nearness.{relax}
+use Rattle.page_walks.specs.Nearness.{Weights, relax}
 use Rattle.page_walks.specs.Search.{search}
 use Rattle.page_walks.proofs.Rows.{tabled-at}
 use Rattle.page_formulas.specs.Formulas.{Formula}
 use Rattle.page_formulas.specs.Knowledge.{Three, fails, passes, open?, known}
 use Rattle.page_formulas.specs.Kinds.{knownKinds, nowhere}
 use Rattle.page_formulas.specs.Program.{Place, places}
-use Rattle.truth.specs.Cells.{bit}
+use Rattle.truth.specs.Cells.{bit, threeOf}
+use Rattle.truth.specs.declared.truths.Truth.{Truth}
+use Rattle.truth.proofs.truths.Truth.{the-type}
 use Rattle.page_formulas.proofs.Truths.{known-kinds}
 use Rattle.program.specs.Lent.{Lent, placeAt}
 use Rattle.page_sheets.specs.Facts.{taken}
-use Rattle.page_sheets.specs.FastRule.{calmNode, strainedNode, fast, sideOf, after}
-use Rattle.page_sheets.specs.Growth.{Growth, openAt, join}
-use Rattle.page_sheets.specs.Tree.{bytesOf}
+use Rattle.page_sheets.specs.FastRule.{calmNode, strained, strainedNode, cycleOf, fast, sideOf, after}
+use Rattle.page_sheets.specs.Growth.{Growth, shut, openAt, join}
+use Rattle.page_sheets.specs.Tree.{bytesOf, falseLeaf, cycle}
 use Rattle.room.specs.Room.{filling, putOne, puts}
-use Rattle.writer_trees.specs.Trees.{decisions, Grows, halfOf, Placing, Growable, cutBytes, fastAt, sideBy, with}
+use Rattle.writer_trees.specs.Trees.{decisions, Grows, halfOf, Placing, Growable, fastAt, sideBy, with}
 use Rattle.writer_trees.specs.declared.trees.Edge.{Edge}
 use Rattle.writer_trees.specs.declared.trees.Half.{Half}
 use Rattle.writer_trees.specs.declared.trees.Node.{Node}
@@ -38,7 +41,7 @@ use Rattle.program.proofs.Loans.{lent-most, lent-place}
 use Rattle.truth.proofs.Cells.{decided-more}
 use Rattle.page_sheets.proofs.Steps.{fast-split, fast-end}
 use Rattle.page_sheets.proofs.Descent.{leaf-known, leaf-false}
-use Rattle.writer_trees.proofs.Growths.{grows-same, grows-join}
+use Rattle.writer_trees.proofs.Growths.{grows-same, grows-join, strained-cycle}
 
 all-of : (P : Place → Type 0) (ps : List Place) (d : Place) → ((i : ℕ) → i < length ps → P (getD ps i d)) → Every P ps
 all-of P [] d f = tt
@@ -57,12 +60,13 @@ module _ (last : ℕ) (F : Formula) (kinds left right : List ℕ) (most : List �
   pub known-lent : (ds : List Bool) (k : Three) → knownKinds kinds ds ≡ k → known (F .program) ds ≡ k
   known-lent ds k e = known-kinds (F .program) ds ∙ ap (λ x. knownKinds x ds) (sym (lent .kinds)) ∙ e
 
+  -- no place is left
+  fast-ends : (ds : List Bool) (g : Grid) (near : Weights) (decided : ℕ) → length most ≤ decided → known (F .program) ds ≡ open? → fast last F (drop decided (places (F .program))) ds g near ≡ openAt (near 0)
+  fast-ends ds g near decided h e = fast-end last F ds g (places (F .program)) decided nowhere near (omega (arith, lent-most (F .program) kinds left right most lent)) ∙ rw e
+
   module _ (truths : List ℕ) (g near : Grid) (decided : ℕ) where
     abbrev ds : List Bool
     ds = decisions truths decided
-
-    fast-ends : length most ≤ decided → known (F .program) ds ≡ open? → fastAt last F decided truths g near ≡ openAt (weight near 0)
-    fast-ends h e = fast-end last F ds g (places (F .program)) decided nowhere (weight near) (omega (arith, lent-most (F .program) kinds left right most lent)) ∙ rw e
 
     fast-both : (h : decided < length most) → known (F .program) ds ≡ open? → fastAt last F decided truths g near ≡ join (sideOf last F (placeAt left right most decided) (drop (suc decided) (places (F .program))) ds g (weight near) true) (sideOf last F (placeAt left right most decided) (drop (suc decided) (places (F .program))) ds g (weight near) false)
     fast-both h e =
@@ -82,7 +86,7 @@ module _ (last : ℕ) (F : Formula) (kinds left right : List ℕ) (most : List �
       grows-true e = rw (leaf-known last F (drop decided (places (F .program))) ds g (weight near) (known-lent ds passes e)) tt
 
       pub grows-end : knownKinds kinds ds ≡ open? → length most ≤ decided → Grows old s (fastAt last F decided truths g near) new r
-      grows-end e h = rw (fast-ends h (known-lent ds open? e)) tt
+      grows-end e h = rw (fast-ends ds g (weight near) decided h (known-lent ds open? e)) tt
 
 -- the table of the closure with one fact more has its entries
 pub closer-same : (last : ℕ) (F : Formula) (near : Grid) → last < mostVertices → Sized mostVertices near → (q : Place) → SameBelow last F (after (weight near) q) (weight (with last near (q .right) (q .left) (q .most)))
@@ -143,18 +147,30 @@ module _ (F : Formula) (kinds left right : List ℕ) (most : List ℤ) (lent : L
   abbrev so-far : List Bool
   so-far = decisions truths so-many
 
-  strained-grows : (k₃ : Three) (o : Option (List ℕ)) (old new : List ℕ) (s r : Spot) → filling new r ≡ puts (filling old s) (cutBytes (strainedNode k₃ o)) → Grows old s (strainedNode k₃ o) new r
-  strained-grows fails o old new s r f = f
-  strained-grows passes o old new s r f = f
-  strained-grows open? o old new s r f = f
+  -- the formula is false by then
+  half-false : known (F .program) so-far ≡ fails → sideBy F (length most) g near b ≡ shut falseLeaf
+  half-false e = go (strained (weight near) q)
+    where
+      go : (x : Bool) → cond x (strainedNode (known (F .program) so-far) (search (weight facts) last)) (fast last F (drop so-many (places (F .program))) so-far facts (after (weight near) q)) ≡ shut falseLeaf
+      go true = rw e
+      go false = leaf-false last F (drop so-many (places (F .program))) so-far facts (after (weight near) q) e
 
-  -- it closes a negative cycle
-  pub side-cut : (x : ℤ) (facts₁ : Grid) → x ≡ weight near to from +ℤ k → facts₁ ≡ facts → (old new : List ℕ) (s r : Spot) → ltZ x (pos 0) ≡ true → filling new r ≡ puts (filling old s) (cutBytes (strainedNode (knownKinds kinds so-far) (search (weight facts₁) last))) → Grows old s (sideBy F (length most) g near b) new r
-  side-cut x facts₁ e i old new s r t f =
-      let f₂ = subst (λ y. filling new r ≡ puts (filling old s) (cutBytes (strainedNode (knownKinds kinds so-far) (search (weight y) last)))) i f in
-      rw (subst (λ y. ltZ y (pos 0) ≡ true) e t) (rw (known-lent last F kinds left right most lent so-far (knownKinds kinds so-far) refl) (strained-grows (knownKinds kinds so-far) (search (weight facts) last) old new s r f₂))
+  pub side-false : knownKinds kinds so-far ≡ fails → (old new : List ℕ) (s r : Spot) → filling new r ≡ putOne (filling old s) 1 → Grows old s (sideBy F (length most) g near b) new r
+  unfolding bytesOf puts
+  side-false e old new s r f = rw (half-false (known-lent last F kinds left right most lent so-far fails e)) f
 
-  -- it does not
+  -- it is not, and the fact closes a negative cycle
+  pub side-cut : (x : ℤ) → x ≡ weight near to from +ℤ k → (t : Truth) → threeOf t ≡ knownKinds kinds so-far → OneOf (1 ∷ 2 ∷ []) (tagOf the-type t) → (old new : List ℕ) (s r : Spot) → ltZ x (pos 0) ≡ true → filling new r ≡ puts (filling old s) (bytesOf (cycle (cycleOf (search (weight facts) last)))) → Grows old s (sideBy F (length most) g near b) new r
+  side-cut x e t i h old new s r lt f = rw (subst (λ y. ltZ y (pos 0) ≡ true) e lt) (rw (known-lent last F kinds left right most lent so-far (threeOf t) (sym i)) (rw (strained-cycle t (search (weight facts) last) h) f))
+
+  -- it closes none, and the formula is true, or no place is left: there is no tree
+  pub side-true : (x : ℤ) → x ≡ weight near to from +ℤ k → ltZ x (pos 0) ≡ false → knownKinds kinds so-far ≡ passes → (old new : List ℕ) (s r : Spot) → Grows old s (sideBy F (length most) g near b) new r
+  side-true x e t i old new s r = rw (subst (λ y. ltZ y (pos 0) ≡ false) e t) (rw (leaf-known last F (drop so-many (places (F .program))) so-far facts (after (weight near) q) (known-lent last F kinds left right most lent so-far passes i)) tt)
+
+  pub side-end : (x : ℤ) → x ≡ weight near to from +ℤ k → ltZ x (pos 0) ≡ false → knownKinds kinds so-far ≡ open? → length most ≤ so-many → (old new : List ℕ) (s r : Spot) → Grows old s (sideBy F (length most) g near b) new r
+  side-end x e t i h old new s r = rw (subst (λ y. ltZ y (pos 0) ≡ false) e t) (rw (fast-ends last F kinds left right most lent so-far facts (after (weight near) q) so-many h (known-lent last F kinds left right most lent so-far open? i)) tt)
+
+  -- it closes none, and there is a tree below
   pub side-calm : (x : ℤ) (facts₁ closer₁ : Grid) → x ≡ weight near to from +ℤ k → facts₁ ≡ facts → closer₁ ≡ with last near from to k → (old new : List ℕ) (s r : Spot) → ltZ x (pos 0) ≡ false → Growable last left right most g near → Grows old s (fastAt last F so-many truths facts₁ closer₁) new r → Grows old s (sideBy F (length most) g near b) new r
   side-calm x facts₁ closer₁ e i j old new s r t ready h =
       let todo = drop so-many (places (F .program)) in

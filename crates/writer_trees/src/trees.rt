@@ -1,5 +1,5 @@
 // The writer's rule at a node and below it. The closure of the facts goes down beside the grid, so that one sum tells whether a
-// fact closes a negative cycle; the search is made only where there is one.
+// fact closes a negative cycle; the search is made only where there is one, and the two are copied only where a branch follows.
 use closure::relax_in;
 use cycles::search;
 use facts::start;
@@ -31,11 +31,11 @@ ghost use Rattle.page_walks.specs.Grid.{weight, tighten};
 ghost use Rattle.page_walks.specs.Search.{search};
 ghost use Rattle.program.specs.Lent.{Lent};
 ghost use Rattle.program.specs.Compiled.{Compiled, Fine, formulaOf};
-ghost use Rattle.page_sheets.specs.FastRule.{strainedNode, cycleOf};
+ghost use Rattle.page_sheets.specs.FastRule.{cycleOf};
 ghost use Rattle.page_sheets.specs.Growth.{growTree};
 ghost use Rattle.page_sheets.specs.Sheet.{lastVertex};
 ghost use Rattle.room.specs.Room.{filling, puts};
-ghost use Rattle.writer_trees.specs.Trees.{Grows, decisions, halfOf, Growable, cutBytes, fastAt, sideBy};
+ghost use Rattle.writer_trees.specs.Trees.{Grows, decisions, halfOf, Growable, fastAt, sideBy};
 ghost use Rattle.grid.specs.Edges.{Fact, Kept};
 
 // A fact as an edge.
@@ -94,28 +94,6 @@ fn put_search(
     put_cycle(room, spot, vertices, c.count)
 }
 
-// A node whose last fact closes a negative cycle.
-fn cut(
-    room: &mut [u8],
-    spot: Spot,
-    kinds: &[u8],
-    truths: [u8; PLACES],
-    decided: usize,
-    g: &[[i64; VERTICES]; VERTICES],
-    last: usize,
-    e: Edge,
-) -> Spot
-    requires { ⌜ (length (now kinds) ≤ mostInstructions) × (decided ≤ mostDecisions) × (last < mostVertices) × Kept (now g) × Fact last (e .from) (e .to) (e .weight) ⌝ }
-    ensures { λ r. ⌜ filling (now (room .exit)) r ≡ puts (filling (now (room .entry)) spot) (cutBytes (strainedNode (knownKinds (now (kinds .entry)) (decisions truths decided)) (search (weight (tighten (now (g .entry)) (e .from) (e .to) (e .weight))) last))) ⌝ }
-{
-    let t = known_so_far(kinds, truths, decided);
-    match t {
-        Truth::Fails => put(room, spot, 1),
-        Truth::Passes => put_search(room, spot, g, last, e),
-        Truth::Open => put_search(room, spot, g, last, e),
-    }
-}
-
 // The half of a branch at a node where the next place has this truth: the fact is an edge.
 fn half_at(
     n: Node,
@@ -141,7 +119,8 @@ fn half_at(
     Half { node, fact }
 }
 
-// What one more fact comes to. Past the room's end nothing more would be stored, so there is nothing to do.
+// What one more fact comes to. Past the room's end nothing more would be stored, so there is nothing to do. A leaf is told before
+// anything is copied: a quarter of all nodes are false by the truths so far.
 fn side(
     room: &mut [u8],
     h: Half,
@@ -161,17 +140,26 @@ fn side(
     if over {
         return spot;
     }
+    let truths = n.truths;
+    let k = known_so_far(kinds, truths, most.len() - n.undecided);
+    if let Truth::Fails = k {
+        return put(room, spot, 1);
+    }
     let e = h.fact;
     let round = edge(near, e.to, e.from);
     if round + e.weight < 0 {
-        let decided = most.len() - n.undecided;
-        let truths = n.truths;
-        return cut(room, spot, kinds, truths, decided, g, n.last, e);
+        return put_search(room, spot, g, n.last, e);
+    }
+    let Truth::Open = k else {
+        return spot;
+    };
+    if n.undecided == 0 {
+        return spot;
     }
     let facts = tighten(g, e.from, e.to, e.weight);
     let mut closer = *near;
     relax_in(&mut closer, n.last + 1, e.from, e.to, e.weight);
-    grow(room, n, kinds, left, right, most, &facts, &closer)
+    branch(room, n, kinds, left, right, most, &facts, &closer)
 }
 
 // Node 3, where the next place is open, and both its halves.
@@ -200,7 +188,7 @@ fn branch(
     side(room, no, kinds, left, right, most, g, near)
 }
 
-// A node where no cycle is negative, and all below it. Where the formula is open there is no tree, and what is stored means nothing.
+// The root, where no cycle is negative, and all below it. Where the formula is open there is no tree, and what is stored means nothing.
 pub fn grow(
     room: &mut [u8],
     n: Node,
@@ -247,7 +235,8 @@ pub fn plant_formula<'a>(
     let lo = v.lo;
     let hi = v.hi;
     let facts = start(flags, lo, hi);
-    let near = begin(v.count, flags, lo, hi);
+    let mut near = [[0i64; VERTICES]; VERTICES];
+    begin(&mut near, v.count, &flags, &lo, &hi);
     let root = Node {
         spot,
         last: v.count - 1,

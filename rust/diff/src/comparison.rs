@@ -4,7 +4,7 @@ use crate::library;
 use oracle::contents::{all_contents, computable, irrelevant};
 use oracle::rules::sheet::{work, Worked};
 use oracle::{encode, read, Question, Refusal, Verdict};
-use samples::{changed, damaged, hard, hex, misfit, other_sheet, question, tiny, Chance};
+use samples::{changed, damaged, hard, hex, misfit, other_sheet, overlong_sheet, question, tiny, Chance};
 use std::collections::BTreeMap;
 
 /// What was put to both, counted.
@@ -120,7 +120,7 @@ pub fn accepted(
 }
 
 /// Sheets of many kinds: the writer's or, where there isn't room for it, its beginning; another that
-/// passes; damaged ones.
+/// passes; one whose cycles may be too long; damaged ones.
 fn sheets(
     chance: &mut Chance,
     asked: u8,
@@ -133,6 +133,9 @@ fn sheets(
         true => other_sheet(chance, question, asked, worked),
         false => worked.bytes[..chance.below(worked.bytes.len())].to_vec(),
     };
+    if worked.whole {
+        sheet(asked, &bytes, &overlong_sheet(chance, question, asked, worked), tally)?;
+    }
     sheet(asked, &bytes, &worked.bytes, tally)?;
     sheet(asked, &bytes, &other, tally)?;
     sheet(3 - asked, &bytes, &other, tally)?;

@@ -4,6 +4,7 @@
 //! a few runs counts: what else the machine does can only add to it.
 
 use crate::library;
+use oracle::rules::question::MOST_COLUMNS;
 use oracle::rules::sheet::work;
 use oracle::{encode, Question};
 use samples::recorded::ASK_ROOM;
@@ -100,7 +101,7 @@ fn next(chance: &mut Chance, hunt: &Hunt) -> (Question, u8) {
     };
     if hunt.kept.is_empty() || chance.once_in(4) {
         let new = match chance.below(8) {
-            0 => deepest(),
+            0 => deepest(MOST_COLUMNS),
             1 => question(chance),
             _ => hard(chance),
         };

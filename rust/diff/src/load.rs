@@ -1,11 +1,12 @@
 //! What the benchmark asks.
 
 use crate::smt::script;
+use oracle::rules::question::{MOST_COLUMNS, MOST_TABLES};
 use oracle::rules::sheet::{work, Worked};
 use oracle::rules::trouble::trouble;
 use oracle::{encode, Question, Verdict};
 use samples::recorded::ASK_ROOM;
-use samples::{examples, hard, question, sized, Chance};
+use samples::{examples, hard_within, question, question_within, sized, Bounds, Chance};
 
 /// One question as it is asked, with what is known of it.
 pub struct Asked {
@@ -29,6 +30,13 @@ pub struct Load {
     pub questions: Vec<Asked>,
 }
 
+/// The limits when the first loads were drawn. Their questions are to stay the same, byte for byte, so that
+/// figures taken before and after a change of the limits compare.
+const EARLIER: Bounds = Bounds { tables: 4, columns: 8, shown: 2 };
+
+/// As large as can be, with all columns hidden but one or two.
+const HIDDEN: Bounds = Bounds { tables: MOST_TABLES, columns: MOST_COLUMNS, shown: 24 };
+
 /// A load's name, and how its questions are made.
 type Making = (String, Box<dyn Fn() -> Vec<Asked>>);
 
@@ -37,14 +45,17 @@ pub fn loads(word: &str) -> Vec<Load> {
     let mut all: Vec<Making> = vec![
         ("Appendix B of report 000".to_string(), Box::new(appendix_b)),
         ("random, all shapes".to_string(), Box::new(random)),
-        ("nine vertices, long sheets".to_string(), Box::new(nine_vertices)),
-        ("hard".to_string(), Box::new(hard_ones)),
+        ("nine vertices, long sheets".to_string(), Box::new(|| long_sheets(22, 9, &EARLIER))),
+        ("hard".to_string(), Box::new(|| hard_ones(24, 8))),
+        ("12 columns, all shapes".to_string(), Box::new(twelve_columns)),
+        ("12 columns, 24 vertices, long sheets".to_string(), Box::new(|| long_sheets(26, 24, &HIDDEN))),
+        ("up to 12 columns, hard".to_string(), Box::new(|| hard_ones(27, 12))),
     ];
     for count in 1..=6 {
         let name = format!("6 columns, {count} comparisons a condition");
         all.push((name, Box::new(move || grown(6, count))));
     }
-    for count in [1, 2, 4, 8] {
+    for count in [1, 2, 4, 8, 12] {
         let name = format!("{count} columns, 3 comparisons a condition");
         all.push((name, Box::new(move || grown(count, 3))));
     }
@@ -80,18 +91,31 @@ fn appendix_b() -> Vec<Asked> {
 fn random() -> Vec<Asked> {
     let mut chance = Chance::new(21);
     let mut questions = Vec::new();
-    (0..500).for_each(|_| ask(&question(&mut chance), &mut questions));
+    (0..500).for_each(|_| ask(&question_within(&mut chance, &EARLIER), &mut questions));
     questions
 }
 
-/// Questions whose largest formula has nine vertices, with sheets of 1,000 bytes or more.
-fn nine_vertices() -> Vec<Asked> {
-    let mut chance = Chance::new(22);
+/// Questions of all shapes with as many columns as can be.
+fn twelve_columns() -> Vec<Asked> {
+    let mut chance = Chance::new(25);
+    let mut questions = Vec::new();
+    while questions.len() < 1_000 {
+        let question = question(&mut chance);
+        if question.columns.len() == MOST_COLUMNS {
+            ask(&question, &mut questions);
+        }
+    }
+    questions
+}
+
+/// Questions whose largest formula has so many vertices, with sheets of 1,000 bytes or more.
+fn long_sheets(seed: u64, vertices: usize, bounds: &Bounds) -> Vec<Asked> {
+    let mut chance = Chance::new(seed);
     let mut questions = Vec::new();
     while questions.len() < 100 {
-        let question = question(&mut chance);
+        let question = question_within(&mut chance, bounds);
         let sizes = trouble(&question, 2).into_iter().map(|formula| 1 + formula.vertices.len());
-        if sizes.max() == Some(9) {
+        if sizes.max() == Some(vertices) {
             ask(&question, &mut questions);
             questions.retain(|asked| asked.worked.bytes.len() >= 1_000);
         }
@@ -99,10 +123,11 @@ fn nine_vertices() -> Vec<Asked> {
     questions
 }
 
-fn hard_ones() -> Vec<Asked> {
-    let mut chance = Chance::new(24);
+/// Hard questions of at most so many columns.
+fn hard_ones(seed: u64, columns: usize) -> Vec<Asked> {
+    let mut chance = Chance::new(seed);
     let mut questions = Vec::new();
-    (0..300).for_each(|_| ask(&hard(&mut chance), &mut questions));
+    (0..300).for_each(|_| ask(&hard_within(&mut chance, columns), &mut questions));
     questions
 }
 

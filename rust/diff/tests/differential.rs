@@ -2,6 +2,7 @@
 
 use diff::comparison::{accepted, brute, round, Tally};
 use diff::{library, on_promised_stack, rounds};
+use oracle::rules::question::MOST_COLUMNS;
 use oracle::{encode, Question, Verdict};
 use samples::examples::{published, twelve};
 use samples::{deepest, Chance};
@@ -70,7 +71,8 @@ fn cases_and_published_examples() {
     });
 }
 
+/// A path of 144 decisions.
 #[test]
 fn the_deepest_tree() {
-    on_promised_stack(|| assert_eq!(whole("deepest", &deepest()), "yes/yes"));
+    on_promised_stack(|| assert_eq!(whole("deepest", &deepest(MOST_COLUMNS)), "yes/yes"));
 }

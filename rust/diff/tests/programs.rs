@@ -1,8 +1,9 @@
 //! The programs on the recorded questions, as processes of their own.
 
 use diff::machine::command;
-use samples::hex;
+use oracle::encode;
 use samples::recorded::{asks, hard_asks, Ask};
+use samples::{hex, limits};
 use std::io::Write;
 use std::path::{Path, PathBuf};
 use std::process::Stdio;
@@ -35,12 +36,29 @@ fn ask_answers_hard_questions() {
     }
 }
 
-/// Every fourth one, through files.
+/// Four rows of twelve columns: C holds of each, so asked 1 is a no of 8 bytes and twelve values; asked 2 has
+/// no formula, so it is a yes of 7 bytes.
+fn longest() -> Ask {
+    let question = encode(&limits::longest());
+    let printed = "irrelevant no 56\ncomputable yes 7\n".to_string();
+    let no = [&b"VUS\x01\x00\x01\x01"[..], &[0; 49]].concat();
+    Ask { question, printed, sheets: [Some(no), Some(b"VUS\x01\x00\x02\x00".to_vec())] }
+}
+
+#[test]
+fn ask_reads_the_longest_question() {
+    let Ask { mut question, printed, .. } = longest();
+    assert_eq!(run("ask", &[], &question), printed);
+    question.push(0);
+    assert_eq!(run("ask", &[], &question), "refused 9 369\n");
+}
+
+/// Every fourth one and the longest, through files.
 #[test]
 fn sheets_are_written_and_pass() {
     let folder = PathBuf::from(env!("CARGO_TARGET_TMPDIR"));
     let (asked_of, sheet_of) = (folder.join("question"), folder.join("sheet"));
-    for Ask { question, printed, sheets } in asks().into_iter().step_by(4) {
+    for Ask { question, printed, sheets } in asks().into_iter().step_by(4).chain([longest()]) {
         for (at, word) in ["irrelevant", "computable"].iter().enumerate() {
             let Some(sheet) = &sheets[at] else { continue };
             std::fs::write(&asked_of, &question).expect("a file");

@@ -1,6 +1,7 @@
 //! Verdicts against the definitions over contents, all small contents being tried.
 
 use oracle::contents::{all_contents, breaks, computable, irrelevant};
+use oracle::rules::question::MOST_COLUMNS;
 use oracle::rules::sheet::{judge, values_in, work, Verdict};
 use oracle::Question;
 use samples::{question, tiny, Chance};
@@ -26,8 +27,8 @@ fn verdicts_follow_the_definitions() {
     assert!(neither > 300 && computable > 300 && irrelevant > 300, "{counts:?}");
 }
 
-/// More than a no sheet needs.
-const MOST_ROOM: usize = 100;
+/// What the longest no sheet needs: its first eight bytes, and two rows.
+const MOST_ROOM: usize = 8 + 2 * 4 * MOST_COLUMNS;
 
 #[test]
 fn rows_of_a_no_sheet_break_the_claim() {

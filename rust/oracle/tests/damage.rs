@@ -1,8 +1,8 @@
 //! Damaged questions and sheets: never a panic, never a verdict that isn't so.
 
 use oracle::rules::sheet::work;
-use oracle::{check, encode, read, verdict, write, Refusal};
-use samples::{damaged, misfit, other_sheet, question, Chance};
+use oracle::{check, encode, read, verdict, write, Refusal, Verdict};
+use samples::{damaged, hex, misfit, other_sheet, overlong_sheet, question, Chance};
 use std::collections::BTreeMap;
 
 const ROOM: usize = 8_192;
@@ -80,4 +80,41 @@ fn damaged_sheets() {
     for number in [0, 11, 12, 13, 14, 15, 16] {
         assert!(counts[&number] > 50, "{counts:?}");
     }
+}
+
+/// The places of the counts in a yes sheet: a cycle is a 2, its count, so many vertices.
+fn count_places(sheet: &[u8]) -> Vec<usize> {
+    let (mut places, mut at) = (Vec::new(), 7);
+    while at < sheet.len() {
+        if sheet[at] == 2 {
+            places.push(at + 1);
+            at += 1 + usize::from(sheet[at + 1]);
+        }
+        at += 1;
+    }
+    places
+}
+
+/// Cycles gone round several times pass up to 25 vertices; the first that names more is refused.
+#[test]
+fn sheets_with_long_cycles() {
+    let mut chance = Chance::new(7);
+    let mut counts = [0; 256];
+    for _ in 0..2_000 {
+        let question = question(&mut chance);
+        let asked = chance.among(&[1, 2]);
+        let worked = work(&question, asked, ROOM);
+        if worked.verdict == Verdict::No || !worked.whole {
+            continue;
+        }
+        let sheet = overlong_sheet(&mut chance, &question, asked, &worked);
+        let places = count_places(&sheet);
+        places.iter().for_each(|&place| counts[usize::from(sheet[place])] += 1);
+        let right = match places.into_iter().find(|&place| sheet[place] > 25) {
+            None => Ok(Verdict::Yes),
+            Some(place) => Err(Refusal { number: 14, place }),
+        };
+        assert_eq!(check(asked, &encode(&question), &sheet), right, "{}", hex(&sheet));
+    }
+    assert!(counts[18..=26].iter().all(|&count| count > 10), "{:?}", &counts[..32]);
 }

@@ -98,13 +98,16 @@ fn rooms_of_every_length() {
     }
 }
 
+/// Eight columns make 120 places at most, and twelve 144: no question has a longer path.
 #[test]
-fn a_path_of_120_decisions() {
-    let question = deepest();
-    let places = trouble(&question, 2).into_iter().map(|formula| formula.places.len());
-    assert_eq!(places.max(), Some(120));
-    let bytes = encode(&question);
-    let sheet = sheet(&bytes, 2);
-    let branches = sheet[7..].windows(120).any(|run| run.iter().all(|&node| node == 3));
-    assert!(branches && check(2, &bytes, &sheet) == Ok(Verdict::Yes));
+fn a_path_of_144_decisions() {
+    for (columns, most) in [(8, 120), (12, 144)] {
+        let question = deepest(columns);
+        let places = trouble(&question, 2).into_iter().map(|formula| formula.places.len());
+        assert_eq!(places.max(), Some(most));
+        let bytes = encode(&question);
+        let sheet = sheet(&bytes, 2);
+        let branches = sheet[7..].windows(most).any(|run| run.iter().all(|&node| node == 3));
+        assert!(branches && check(2, &bytes, &sheet) == Ok(Verdict::Yes));
+    }
 }

@@ -29,10 +29,11 @@ pub fn damaged(chance: &mut Chance, bytes: &[u8]) -> Vec<u8> {
 
 fn fault(chance: &mut Chance, bytes: &mut Vec<u8>) {
     let at = chance.below(bytes.len() + 1);
-    match chance.below(8) {
+    match chance.below(9) {
         0 => bytes.truncate(at),
         1 => (0..=chance.below(5)).for_each(|_| bytes.push(chance.below(4) as u8)),
         2 => bytes.insert(at, chance.below(256) as u8),
+        8 => recount(chance, bytes),
         _ if at == bytes.len() => {}
         3 => _ = bytes.remove(at),
         4 => {
@@ -40,8 +41,30 @@ fn fault(chance: &mut Chance, bytes: &mut Vec<u8>) {
             bytes.iter_mut().skip(at).zip(edge).for_each(|(byte, new)| *byte = new);
         }
         5 => bytes[at] ^= 1 << chance.below(8),
-        6 => bytes[at] = chance.among(&[0, 1, 2, 3, 4, 5, 6, 7, 8, 9, 17, 18, 254, 255]),
+        6 => {
+            let most = chance.among(&[MOST_TABLES, MOST_COLUMNS, MOST_VERTICES]);
+            bytes[at] = wild(chance, most) as u8;
+        }
         _ => bytes[at] = chance.below(256) as u8,
+    }
+}
+
+/// A number up to the first that is too large, or one of the two largest bytes.
+fn wild(chance: &mut Chance, most: usize) -> usize {
+    let number = chance.below(most + 4);
+    if number <= most + 1 {
+        number
+    } else {
+        chance.among(&[254, 255])
+    }
+}
+
+/// One of the bytes after a 2, which in a sheet is the count of a cycle or a vertex, becomes a count that
+/// is large, or one too large.
+fn recount(chance: &mut Chance, bytes: &mut [u8]) {
+    let after: Vec<usize> = (1..bytes.len()).filter(|&at| bytes[at - 1] == 2).collect();
+    if !after.is_empty() {
+        bytes[chance.among(&after)] = (MOST_VERTICES + 1 - chance.below(9)) as u8;
     }
 }
 
@@ -50,13 +73,14 @@ pub fn misfit(chance: &mut Chance, question: &Question) -> Vec<u8> {
     let mut question = question.clone();
     let column = chance.below(question.columns.len());
     let edge = chance.among(&EDGES);
-    match chance.below(9) {
+    match chance.below(11) {
         0 => question.columns[column].lo = edge,
         1 => question.columns[column].hi = edge,
         2 => question.columns.iter_mut().for_each(|column| column.visible = false),
-        3 => question.changed = chance.below(6),
+        3 => question.changed = chance.below(MOST_TABLES + 2),
         4 => question.widths.push(chance.below(4)),
         5 => spoil(chance, &mut question.condition, edge),
+        6 => crowd(chance, &mut question),
         _ => match &mut question.change {
             Change::Insert(rows) => {
                 rows.push(vec![edge; question.widths[question.changed]]);
@@ -66,7 +90,7 @@ pub fn misfit(chance: &mut Chance, question: &Question) -> Vec<u8> {
                 let mode = chance.below(modes.len());
                 match chance.below(3) {
                     0 => modes[mode] = Mode::Become(Side::Constant(edge)),
-                    1 => modes[mode] = Mode::Become(Side::Column(chance.below(9), edge)),
+                    1 => modes[mode] = Mode::Become(Side::Column(wild(chance, MOST_COLUMNS - 1), edge)),
                     _ => spoil(chance, condition, edge),
                 }
             }
@@ -75,9 +99,21 @@ pub fn misfit(chance: &mut Chance, question: &Question) -> Vec<u8> {
     encode(&question)
 }
 
+/// One table too many, or one column; the columns are all there.
+fn crowd(chance: &mut Chance, question: &mut Question) {
+    let columns = question.columns.len();
+    if chance.once_in(2) {
+        question.widths.resize(MOST_TABLES + 1, 1);
+    } else {
+        let table = chance.below(question.widths.len());
+        question.widths[table] += MOST_COLUMNS + 1 - columns;
+    }
+    question.columns.resize(question.widths.iter().sum(), question.columns[columns - 1]);
+}
+
 fn spoil(chance: &mut Chance, condition: &mut Condition, edge: i32) {
     let at = chance.below(condition.len() + 1);
-    let wild = chance.among(&[0, 1, 2, 3, 4, 5, 6, 7, 8, 254, 255]);
+    let wild = wild(chance, MOST_COLUMNS - 1);
     let op = chance.among(&OPS);
     let token = match chance.below(5) {
         0 => Token::And,

@@ -13,10 +13,16 @@ const KINDS: [&[Op]; 5] = [
     &OPS,
 ];
 
-/// A hard question: the operators, the number of columns, the ranges, how the comparisons are joined
-/// and what the change does all vary.
+/// A hard question of at most 8 columns, or of at most as many as there can be.
 pub fn hard(chance: &mut Chance) -> Question {
-    let count = chance.among(&[4, 6, 8, 8, 8]);
+    let most = chance.among(&[8, MOST_COLUMNS]);
+    hard_within(chance, most)
+}
+
+/// A hard question of half, three quarters or mostly all of these columns: the operators, the ranges,
+/// how the comparisons are joined and what the change does vary too.
+pub fn hard_within(chance: &mut Chance, most: usize) -> Question {
+    let count = chance.among(&[most / 2, most * 3 / 4, most, most, most]);
     let kind = chance.among(&KINDS);
     let columns = columns(chance, count);
     let condition = six(chance, kind, count);

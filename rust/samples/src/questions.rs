@@ -4,10 +4,28 @@ use crate::Chance;
 use oracle::rules::question::*;
 use std::ops::Range;
 
-/// A question within all limits; some are at the limits.
+/// How large a question may become, and how much of it is seen.
+#[derive(Clone, Copy)]
+pub struct Bounds {
+    /// Most tables.
+    pub tables: usize,
+    /// Most columns, all tables together.
+    pub columns: usize,
+    /// One column in so many is visible, beside the one that always is.
+    pub shown: usize,
+}
+
+/// A question within all limits; some are at the limits. One in four hides nearly all its columns, so
+/// that formulas of two rows have nearly as many vertices as there can be.
 pub fn question(chance: &mut Chance) -> Question {
-    let widths = widths(chance);
-    let columns = columns(chance, widths.iter().sum());
+    let shown = chance.among(&[2, 2, 2, 12]);
+    question_within(chance, &Bounds { tables: MOST_TABLES, columns: MOST_COLUMNS, shown })
+}
+
+/// A question within these bounds.
+pub fn question_within(chance: &mut Chance, bounds: &Bounds) -> Question {
+    let widths = widths(chance, bounds);
+    let columns = columns(chance, widths.iter().sum(), bounds.shown);
     let counts = [0, 1].map(|_| chance.below(MOST_COMPARISONS + 1));
     finish(chance, widths, columns, counts)
 }
@@ -18,7 +36,7 @@ pub fn sized(chance: &mut Chance, count: usize, comparisons: usize) -> Question 
         1 => vec![1],
         _ => vec![count / 2, count - count / 2],
     };
-    let columns = columns(chance, count);
+    let columns = columns(chance, count, 2);
     finish(chance, widths, columns, [comparisons; 2])
 }
 
@@ -39,17 +57,17 @@ pub fn tiny(chance: &mut Chance) -> Question {
     finish(chance, widths, columns, counts)
 }
 
-/// A question with a formula of 120 places, the most there can be, and a path through all of them:
-/// every comparison sets a column against itself.
-pub fn deepest() -> Question {
+/// A question over so many columns with a formula of the most places that there can be, and a path
+/// through all of them: every comparison sets a column against itself. With 12 columns there are 144.
+pub fn deepest(columns: usize) -> Question {
     let column = Column { lo: 0, hi: 1, visible: true };
     let mut all = vec![Token::Compare(Op::Equal, 0, Side::Column(0, 0)); MOST_COMPARISONS];
     all.extend([Token::And; MOST_COMPARISONS - 1]);
-    let modes = (0..MOST_COLUMNS).map(|column| Mode::Become(Side::Column(column, 0)));
+    let modes = (0..columns).map(|column| Mode::Become(Side::Column(column, 0)));
     Question {
-        widths: vec![MOST_COLUMNS],
+        widths: vec![columns],
         changed: 0,
-        columns: vec![column; MOST_COLUMNS],
+        columns: vec![column; columns],
         condition: all.clone(),
         change: Change::Modify(all, modes.collect()),
     }
@@ -69,21 +87,21 @@ fn finish(
     question
 }
 
-fn widths(chance: &mut Chance) -> Vec<usize> {
-    let tables = 1 + chance.below(MOST_TABLES);
+fn widths(chance: &mut Chance, bounds: &Bounds) -> Vec<usize> {
+    let tables = 1 + chance.below(bounds.tables);
     let mut widths = vec![1; tables];
-    for _ in 0..chance.below(MOST_COLUMNS - tables + 1) {
+    for _ in 0..chance.below(bounds.columns - tables + 1) {
         widths[chance.below(tables)] += 1;
     }
     widths
 }
 
-fn columns(chance: &mut Chance, count: usize) -> Vec<Column> {
+fn columns(chance: &mut Chance, count: usize, shown: usize) -> Vec<Column> {
     let wide = chance.once_in(4);
     let mut columns = Vec::new();
     for _ in 0..count {
         let (lo, hi) = if wide { wide_range(chance) } else { small_range(chance) };
-        let visible = chance.once_in(2);
+        let visible = chance.once_in(shown);
         columns.push(Column { lo, hi, visible });
     }
     let shown = chance.below(count);

@@ -20,7 +20,7 @@ use Rattle.checker_yes.proofs.yes_sheet.Tie as tie
 
 abbrev Inv-loop : tie.InvT-loop
 Inv-loop q asked sheet n at₀ i₀ at i =
-    (i ≤ n) × (at ≤ length sheet) × (left (formulas (questionOf q) asked) sheet i at ≡ checkYes (formulas (questionOf q) asked) sheet)
+    (i ≤ n) × (at ≤ length sheet) × (left (formulas (questionOf q) asked) sheet i at ≡ checkYes mostVertices (formulas (questionOf q) asked) sheet)
 
 abbrev μ-loop : tie.MeasureT-loop
 μ-loop q asked sheet n at₀ i₀ at i = n - i

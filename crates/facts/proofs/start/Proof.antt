@@ -14,7 +14,7 @@ use Rattle.page_walks.proofs.Rows.{sized}
 use Rattle.page_formulas.specs.Vertices.{Ranges}
 use Rattle.page_sheets.specs.Facts.{confineAll, start}
 use Rattle.program.specs.Compiled.{Spanned}
-use Rattle.facts.proofs.RangeFacts.{blank-within, confine-within, small-low, small-high, wider, start-on, start-past, start-end}
+use Rattle.facts.proofs.RangeFacts.{blank-within, confine-within, confine-sized, small-low, small-high, wider, start-on, start-past, start-end}
 use Rattle.facts.proofs.start.Statement.{statement}
 use Rattle.facts.proofs.start.Tie as tie
 
@@ -71,7 +71,7 @@ loop-again c =
     rw e (
       search needs,
       confine-within mostVertices (l .g) (l .i + 1) (record { lo = getD (a .t2) (l .i + 1) (pos 0); hi = getD (a .t3) (l .i + 1) (pos 0) }) (l .inv .1) (small-low (a .t1) (a .t2) (a .t3) (s .pre) (l .i) t) (small-high (a .t1) (a .t2) (a .t3) (s .pre) (l .i) t),
-      rw e at (sized mostVertices (c .confine .result) _ (c .confine .ok)),
+      confine-sized mostVertices (l .g) (l .i + 1) (record { lo = getD (a .t2) (l .i + 1) (pos 0); hi = getD (a .t3) (l .i + 1) (pos 0) }) (l .inv .2),
       λ rs z. start-on rs (a .t1) (a .t2) (a .t3) z (l .g) (l .i) t ∙ l .inv .3 rs z,
     )
 

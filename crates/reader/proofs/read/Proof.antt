@@ -1,5 +1,5 @@
 use borrow.Author.Tests.{le-leb, lt-leb, ne-eqb}
-use Rattle.page_questions.specs.Reader.{readOf}
+use Rattle.page_questions.specs.Reader.{readUnder}
 use borrow.Author.Needs.{needs}
 use Rattle.reader.proofs.read.Statement.{statement}
 use Rattle.reader.proofs.read.Tie as tie
@@ -8,7 +8,7 @@ refusal-requires : tie.Need-refusal-requires
 refusal-requires c κs = search needs
 
 returns : tie.Need-returns
-unfolding readOf
+unfolding readUnder
 returns c = rw (lt-leb _ _ (c .before .if1 .taken)) (c .refusal .ensures)
 
 shared-slice-read-if2 : tie.Need-shared-slice-read-if2
@@ -18,7 +18,7 @@ refusal-requires-2 : tie.Need-refusal-requires-2
 refusal-requires-2 c κs = search needs
 
 returns-2 : tie.Need-returns-2
-unfolding readOf
+unfolding readUnder
 returns-2 c = rw (le-leb _ _ (c .before .before .before .if1 .left), ne-eqb _ _ (c .before .if2 .taken)) (c .refusal2 .ensures)
 
 shared-slice-read-if3 : tie.Need-shared-slice-read-if3
@@ -28,7 +28,7 @@ refusal-requires-3 : tie.Need-refusal-requires-3
 refusal-requires-3 c κs = search needs
 
 returns-3 : tie.Need-returns-3
-unfolding readOf
+unfolding readUnder
 returns-3 c =
     let e = c .before .before .before in
     rw (le-leb _ _ (e .before .before .if1 .left), e .if2 .left, ne-eqb _ _ (c .before .if3 .taken)) (c .refusal3 .ensures)
@@ -40,7 +40,7 @@ refusal-requires-4 : tie.Need-refusal-requires-4
 refusal-requires-4 c κs = search needs
 
 returns-4 : tie.Need-returns-4
-unfolding readOf
+unfolding readUnder
 returns-4 c =
     let f = c .before .before .before in
     let e = f .before .before in
@@ -50,7 +50,7 @@ from-version-requires : tie.Need-from-version-requires
 from-version-requires c κs = search needs
 
 returns-5 : tie.Need-returns-5
-unfolding readOf
+unfolding readUnder
 returns-5 c =
     let f = c .before .before .before in
     let e = f .before .before in

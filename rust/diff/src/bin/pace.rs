@@ -23,7 +23,7 @@ fn main() {
     );
     println!("| columns | asked | vertices | verdict | a comparison more | sheet | longer cycle | check |");
     println!("|---|---|---|---|---|---|---|---|");
-    for (columns, asked) in [(4, 1), (8, 1), (4, 2), (8, 2)] {
+    for (columns, asked) in [(4, 1), (8, 1), (12, 1), (4, 2), (8, 2), (12, 2)] {
         println!("{}", row(columns, asked));
     }
 }

@@ -12,8 +12,9 @@ fn main() {
         return library::warn_of_emulation();
     }
     let bytes = |asks: Vec<samples::recorded::Ask>| asks.into_iter().map(|ask| ask.question).collect();
-    let loads: [(&str, Vec<Vec<u8>>); 3] = [
-        ("the deepest tree", vec![encode(&deepest())]),
+    let loads: [(&str, Vec<Vec<u8>>); 4] = [
+        ("the deepest tree of 8 columns, 120 decisions", vec![encode(&deepest(8))]),
+        ("the deepest tree, 144 decisions", vec![encode(&deepest(12))]),
         ("recorded, all sorts", bytes(asks())),
         ("recorded, hard", bytes(hard_asks())),
     ];

@@ -1,16 +1,16 @@
 //! A question as values: a list definition and one change.
 
 /// Most tables of a list definition.
-pub const MOST_TABLES: usize = 4;
+pub const MOST_TABLES: usize = 6;
 /// Most columns, all tables together.
-pub const MOST_COLUMNS: usize = 8;
+pub const MOST_COLUMNS: usize = 12;
 /// Most tokens of a condition.
 pub const MOST_TOKENS: usize = 16;
 /// Most comparisons of a condition.
 pub const MOST_COMPARISONS: usize = 6;
 /// Most rows of one insert.
 pub const MOST_ROWS: usize = 4;
-/// Most vertices named in one cycle of a sheet.
+/// Most vertices of a formula, zero among them, and most that one cycle of a sheet names.
 pub const MOST_VERTICES: usize = 1 + 2 * MOST_COLUMNS;
 /// Bounds of a column's range: -MOST_VALUE ..= MOST_VALUE.
 pub const MOST_VALUE: i32 = 1_000_000_000;

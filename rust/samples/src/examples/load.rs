@@ -31,7 +31,8 @@ fn ordr(from: i32) -> Sketch {
     Sketch::new(&format!("{ORDER}; {CUSTOMER}"), &condition)
 }
 
-/// Without itemDesc, which no condition and no update names: nine columns would be one too many.
+/// Without itemDesc, which no condition and no update names: with it there are nine columns, one too many
+/// when these examples were made and recorded.
 fn avlb(from: i32) -> Sketch {
     let to = from + 10;
     let tables = format!("{ITEM_SHORT}; {AVAILABLE}; {DISTRIBUTOR}");

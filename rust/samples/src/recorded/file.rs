@@ -15,7 +15,7 @@ macro_rules! vectors {
 }
 
 /// Files of calls: call, answer.
-pub(super) const CALLS: [File; 1] = [vectors!("calls.tsv", 15)];
+pub(super) const CALLS: [File; 2] = [vectors!("calls.tsv", 15), vectors!("request-13.tsv", 300)];
 
 /// Questions of all sorts, refused ones among them: question, what `ask` prints, both sheets.
 pub(super) const ASKS: File = vectors!("ask.tsv", 400);

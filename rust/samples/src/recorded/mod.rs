@@ -21,8 +21,8 @@ pub struct Recorded {
 }
 
 impl Recorded {
-    fn new(call: String, answer: String) -> Self {
-        Recorded { call, answer }
+    pub(crate) fn new(call: impl Into<String>, answer: impl Into<String>) -> Self {
+        Recorded { call: call.into(), answer: answer.into() }
     }
 
     /// Stops the run if the routines answer otherwise.
