@@ -3,8 +3,7 @@ use Prim.Native.Nat.{ℕ, suc, _≤_, _<_}
 use mathlib.Core.Path.{_≡_, refl, sym, ap, _∙_}
 use mathlib.Core.Bool.{Bool, true, false, cond}
 use mathlib.Core.Option.{Option, none, some}
-use mathlib.Core.Logic.{inl, inr}
-use mathlib.Core.List.{List, [], _∷_}
+use mathlib.Core.List.{List}
 use native.Mathlib.Omega.{arith}
 use lib.Dec.{T, eqb, eqb→eq}
 use lib.ListN.{take}
@@ -15,26 +14,20 @@ use Rattle.page_numbers.proofs.Bridge.{ints, eq-out}
 use Rattle.page_numbers.proofs.Machine.{machine, lt-false}
 use mir.Syntax.{w64}
 use mir.Val.{SFits}
-use denote.Enum.Declared.{tagOf}
-use types.Run.{OneOf}
 use Rattle.page_meaning.specs.Limits.{mostVertices}
 use Rattle.page_walks.specs.Grid.{Grid, weight, tighten, far, farN}
 use Rattle.page_walks.specs.Sizes.{least-weight, Bounded, Sized, AllWithin}
 use Rattle.cycles.specs.Found as Found
 use Rattle.cycles.specs.declared.Cycle.{Cycle}
 use Rattle.page_walks.proofs.Grids.{tighten-keeps, tighten-le, tighten-sized}
-use Rattle.page_formulas.specs.Knowledge.{passes}
-use Rattle.truth.specs.Cells.{threeOf}
-use Rattle.truth.specs.declared.truths.Truth.{Truth}
-use Rattle.truth.specs.declared.truths.Truth.the-variants.{Fails, Passes, Open}
-use Rattle.truth.proofs.truths.Truth.{the-type}
+use Rattle.page_formulas.specs.Knowledge.{Three, fails, passes, open?}
 use Rattle.page_sheets.specs.FastRule.{strainedNode, cycleOf}
 use Rattle.page_sheets.specs.Tree.{bytesOf, cycle}
 use Rattle.page_sheets.specs.Growth.{Growth, shut, openAt, join}
-use Rattle.room.specs.Room.{filling, putOne, puts}
+use Rattle.room.specs.Room.{Filling, filling, putOne, puts}
 use Rattle.goals.specs.Closures.{Tight, Closer}
 use Rattle.goals.proofs.Tightening.{closer-tabled}
-use Rattle.writer_trees.specs.Trees.{Grows, Growable, with}
+use Rattle.writer_trees.specs.Trees.{Grows, Growable, cutBytes, with}
 use Rattle.grid.specs.Edges.{Fact, Kept}
 use Rattle.room.specs.declared.Spot.{Spot}
 use Rattle.page_sheets.proofs.FastRule.{Same}
@@ -98,19 +91,17 @@ module _ (last : ℕ) (left right : List ℕ) (most : List ℤ) (g near : Grid) 
     pub ready-handed : (x : ℤ) (facts closer : Grid) → x ≡ weight near to from +ℤ k → facts ≡ tighten g from to k → closer ≡ with last near from to k → ltZ x (pos 0) ≡ false → Growable last left right most facts closer
     ready-handed x facts closer e i j t = rw (i, j) (ready-next (omega (ints, lt-false x (pos 0) t, eq-out e)))
 
--- ---- which case it is, where the code learnt which it is not
+-- ---- a node whose facts close a negative cycle
 
--- not `Fails`: then a negative cycle is written
-pub strained-cycle : (t : Truth) (o : Option (List ℕ)) → OneOf (1 ∷ 2 ∷ []) (tagOf the-type t) → strainedNode (threeOf t) o ≡ shut (cycle (cycleOf o))
-strained-cycle Fails o h = absurd (elim h [ inl e ↦ omega (arith, e) | inr e ↦ omega (arith, e) ])
-strained-cycle Passes o h = refl
-strained-cycle Open o h = refl
+pub cut-false : (k : Three) (o : Option (List ℕ)) (f x : Filling) → k ≡ fails → x ≡ putOne f 1 → x ≡ puts f (cutBytes (strainedNode k o))
+unfolding puts bytesOf
+cut-false k o f x e h = rw e h
 
--- neither `Fails` nor `Open`
-pub told-passes : (t : Truth) → OneOf (1 ∷ 2 ∷ []) (tagOf the-type t) → OneOf (0 ∷ 1 ∷ []) (tagOf the-type t) → threeOf t ≡ passes
-told-passes Fails h i = absurd (elim h [ inl e ↦ omega (arith, e) | inr e ↦ omega (arith, e) ])
-told-passes Passes h i = refl
-told-passes Open h i = absurd (elim i [ inl e ↦ omega (arith, e) | inr e ↦ omega (arith, e) ])
+pub cut-true : (k : Three) (o : Option (List ℕ)) (f x : Filling) → k ≡ passes → x ≡ puts f (bytesOf (cycle (cycleOf o))) → x ≡ puts f (cutBytes (strainedNode k o))
+cut-true k o f x e h = rw e h
+
+pub cut-open : (k : Three) (o : Option (List ℕ)) (f x : Filling) → k ≡ open? → x ≡ puts f (bytesOf (cycle (cycleOf o))) → x ≡ puts f (cutBytes (strainedNode k o))
+cut-open k o f x e h = rw e h
 
 -- the vertices that the search hands back are its cycle's
 pub found-list : (c : Cycle) (o : Option (List ℕ)) → Found.walkOf c ≡ o → take (c .count) (c .vertices) ≡ cycleOf o

@@ -2,13 +2,12 @@
 use Prim.Native.Nat.{ℕ, zero, suc, _-_, _≤_, _<_}
 use mathlib.Core.Path.{_≡_, refl, sym, ap, ap₂, _∙_, subst}
 use mathlib.Core.Bool.{Bool, true, false, cond}
+use mathlib.Core.Option.{Option}
 use mathlib.Core.List.{List, [], _∷_}
 use native.Mathlib.Omega.{arith}
 use lib.ListN.{length, getD, drop}
 use lib.IntN.{ℤ, pos, _+ℤ_}
 use lib.Signed.{ltZ}
-use denote.Enum.Declared.{tagOf}
-use types.Run.{OneOf}
 use Rattle.page_meaning.specs.Limits.{mostVertices}
 use Rattle.page_walks.specs.Grid.{Grid, weight, tighten}
 use Rattle.page_walks.specs.Sizes.{Sized}
@@ -19,17 +18,15 @@ use Rattle.page_formulas.specs.Formulas.{Formula}
 use Rattle.page_formulas.specs.Knowledge.{Three, fails, passes, open?, known}
 use Rattle.page_formulas.specs.Kinds.{knownKinds, nowhere}
 use Rattle.page_formulas.specs.Program.{Place, places}
-use Rattle.truth.specs.Cells.{bit, threeOf}
-use Rattle.truth.specs.declared.truths.Truth.{Truth}
-use Rattle.truth.proofs.truths.Truth.{the-type}
+use Rattle.truth.specs.Cells.{bit}
 use Rattle.page_formulas.proofs.Truths.{known-kinds}
 use Rattle.program.specs.Lent.{Lent, placeAt}
 use Rattle.page_sheets.specs.Facts.{taken}
-use Rattle.page_sheets.specs.FastRule.{calmNode, strained, strainedNode, cycleOf, fast, sideOf, after}
+use Rattle.page_sheets.specs.FastRule.{calmNode, strained, strainedNode, fast, sideOf, after}
 use Rattle.page_sheets.specs.Growth.{Growth, shut, openAt, join}
-use Rattle.page_sheets.specs.Tree.{bytesOf, falseLeaf, cycle}
+use Rattle.page_sheets.specs.Tree.{bytesOf, falseLeaf}
 use Rattle.room.specs.Room.{filling, putOne, puts}
-use Rattle.writer_trees.specs.Trees.{decisions, Grows, halfOf, Placing, Growable, fastAt, sideBy, with}
+use Rattle.writer_trees.specs.Trees.{decisions, Grows, halfOf, Placing, Growable, cutBytes, fastAt, sideBy, with}
 use Rattle.writer_trees.specs.declared.trees.Edge.{Edge}
 use Rattle.writer_trees.specs.declared.trees.Half.{Half}
 use Rattle.writer_trees.specs.declared.trees.Node.{Node}
@@ -41,7 +38,7 @@ use Rattle.program.proofs.Loans.{lent-most, lent-place}
 use Rattle.truth.proofs.Cells.{decided-more}
 use Rattle.page_sheets.proofs.Steps.{fast-split, fast-end}
 use Rattle.page_sheets.proofs.Descent.{leaf-known, leaf-false}
-use Rattle.writer_trees.proofs.Growths.{grows-same, grows-join, strained-cycle}
+use Rattle.writer_trees.proofs.Growths.{grows-same, grows-join}
 
 all-of : (P : Place → Type 0) (ps : List Place) (d : Place) → ((i : ℕ) → i < length ps → P (getD ps i d)) → Every P ps
 all-of P [] d f = tt
@@ -159,9 +156,14 @@ module _ (F : Formula) (kinds left right : List ℕ) (most : List ℤ) (lent : L
   unfolding bytesOf puts
   side-false e old new s r f = rw (half-false (known-lent last F kinds left right most lent so-far fails e)) f
 
-  -- it is not, and the fact closes a negative cycle
-  pub side-cut : (x : ℤ) → x ≡ weight near to from +ℤ k → (t : Truth) → threeOf t ≡ knownKinds kinds so-far → OneOf (1 ∷ 2 ∷ []) (tagOf the-type t) → (old new : List ℕ) (s r : Spot) → ltZ x (pos 0) ≡ true → filling new r ≡ puts (filling old s) (bytesOf (cycle (cycleOf (search (weight facts) last)))) → Grows old s (sideBy F (length most) g near b) new r
-  side-cut x e t i h old new s r lt f = rw (subst (λ y. ltZ y (pos 0) ≡ true) e lt) (rw (known-lent last F kinds left right most lent so-far (threeOf t) (sym i)) (rw (strained-cycle t (search (weight facts) last) h) f))
+  strained-grows : (k₃ : Three) (o : Option (List ℕ)) (old new : List ℕ) (s r : Spot) → filling new r ≡ puts (filling old s) (cutBytes (strainedNode k₃ o)) → Grows old s (strainedNode k₃ o) new r
+  strained-grows fails o old new s r f = f
+  strained-grows passes o old new s r f = f
+  strained-grows open? o old new s r f = f
+
+  -- the fact closes a negative cycle
+  pub side-cut : (x : ℤ) → x ≡ weight near to from +ℤ k → (t : Three) → t ≡ knownKinds kinds so-far → (old new : List ℕ) (s r : Spot) → ltZ x (pos 0) ≡ true → filling new r ≡ puts (filling old s) (cutBytes (strainedNode t (search (weight facts) last))) → Grows old s (sideBy F (length most) g near b) new r
+  side-cut x e t i old new s r lt f = rw (subst (λ y. ltZ y (pos 0) ≡ true) e lt) (rw (known-lent last F kinds left right most lent so-far t (sym i)) (strained-grows t (search (weight facts) last) old new s r f))
 
   -- it closes none, and the formula is true, or no place is left: there is no tree
   pub side-true : (x : ℤ) → x ≡ weight near to from +ℤ k → ltZ x (pos 0) ≡ false → knownKinds kinds so-far ≡ passes → (old new : List ℕ) (s r : Spot) → Grows old s (sideBy F (length most) g near b) new r

@@ -2,7 +2,7 @@
 use Prim.Native.Nat.{ℕ, suc, _-_, _≤_, _<_}
 use mathlib.Core.Path.{_≡_}
 use mathlib.Core.Bool.{Bool}
-use mathlib.Core.List.{List, map}
+use mathlib.Core.List.{List, [], map}
 use lib.ListN.{length, take, drop, set}
 use lib.IntN.{ℤ}
 use Rattle.page_meaning.specs.Limits.{mostVertices, mostDecisions}
@@ -33,6 +33,11 @@ decisions truths decided = map bit (take decided truths)
 abbrev pub Grows : List ℕ → Spot → Growth → List ℕ → Spot → Type 0
 Grows old s (shut t) new r = filling new r ≡ puts (filling old s) (bytesOf t)
 Grows old s (openAt x) new r = Unit {0}
+
+-- the bytes of a node that is shut
+abbrev pub cutBytes : Growth → List ℕ
+cutBytes (shut t) = bytesOf t
+cutBytes (openAt x) = []
 
 -- the rest of a formula's rule from a node on, where so many of its places are decided and no cycle is negative
 abbrev pub fastAt : ℕ → Formula → ℕ → List ℕ → Grid → Grid → Growth

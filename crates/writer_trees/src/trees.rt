@@ -31,11 +31,11 @@ ghost use Rattle.page_walks.specs.Grid.{weight, tighten};
 ghost use Rattle.page_walks.specs.Search.{search};
 ghost use Rattle.program.specs.Lent.{Lent};
 ghost use Rattle.program.specs.Compiled.{Compiled, Fine, formulaOf};
-ghost use Rattle.page_sheets.specs.FastRule.{cycleOf};
+ghost use Rattle.page_sheets.specs.FastRule.{strainedNode, cycleOf};
 ghost use Rattle.page_sheets.specs.Growth.{growTree};
 ghost use Rattle.page_sheets.specs.Sheet.{lastVertex};
 ghost use Rattle.room.specs.Room.{filling, puts};
-ghost use Rattle.writer_trees.specs.Trees.{Grows, decisions, halfOf, Growable, fastAt, sideBy};
+ghost use Rattle.writer_trees.specs.Trees.{Grows, decisions, halfOf, Growable, cutBytes, fastAt, sideBy};
 ghost use Rattle.grid.specs.Edges.{Fact, Kept};
 
 // A fact as an edge.
@@ -94,6 +94,25 @@ fn put_search(
     put_cycle(room, spot, vertices, c.count)
 }
 
+// A node whose last fact closes a negative cycle, where this is known.
+fn cut(
+    room: &mut [u8],
+    spot: Spot,
+    k: Truth,
+    g: &[[i64; VERTICES]; VERTICES],
+    last: usize,
+    e: Edge,
+) -> Spot
+    requires { ⌜ (last < mostVertices) × Kept (now g) × Fact last (e .from) (e .to) (e .weight) ⌝ }
+    ensures { λ r. ⌜ filling (now (room .exit)) r ≡ puts (filling (now (room .entry)) spot) (cutBytes (strainedNode (threeOf k) (search (weight (tighten (now (g .entry)) (e .from) (e .to) (e .weight))) last))) ⌝ }
+{
+    match k {
+        Truth::Fails => put(room, spot, 1),
+        Truth::Passes => put_search(room, spot, g, last, e),
+        Truth::Open => put_search(room, spot, g, last, e),
+    }
+}
+
 // The half of a branch at a node where the next place has this truth: the fact is an edge.
 fn half_at(
     n: Node,
@@ -141,25 +160,26 @@ fn side(
         return spot;
     }
     let truths = n.truths;
-    let k = known_so_far(kinds, truths, most.len() - n.undecided);
-    if let Truth::Fails = k {
-        return put(room, spot, 1);
-    }
+    let decided = most.len() - n.undecided;
+    let k = known_so_far(kinds, truths, decided);
     let e = h.fact;
     let round = edge(near, e.to, e.from);
     if round + e.weight < 0 {
-        return put_search(room, spot, g, n.last, e);
+        return cut(room, spot, k, g, n.last, e);
     }
-    let Truth::Open = k else {
-        return spot;
-    };
-    if n.undecided == 0 {
-        return spot;
+    match k {
+        Truth::Fails => put(room, spot, 1),
+        Truth::Passes => spot,
+        Truth::Open => {
+            if n.undecided == 0 {
+                return spot;
+            }
+            let facts = tighten(g, e.from, e.to, e.weight);
+            let mut closer = *near;
+            relax_in(&mut closer, n.last + 1, e.from, e.to, e.weight);
+            branch(room, n, kinds, left, right, most, &facts, &closer)
+        }
     }
-    let facts = tighten(g, e.from, e.to, e.weight);
-    let mut closer = *near;
-    relax_in(&mut closer, n.last + 1, e.from, e.to, e.weight);
-    branch(room, n, kinds, left, right, most, &facts, &closer)
 }
 
 // Node 3, where the next place is open, and both its halves.
