@@ -96,7 +96,6 @@ pub fn tree(
     requires { ⌜ (stage .todo ≤ length (now left)) × Checkable (now g) (stage .fact) ⌝ }
     ensures { λ r. ⌜ ((F : Formula) (base : ℕ) → Lent (F .program) (now (kinds .entry)) (now (left .entry)) (now (right .entry)) (now (most .entry)) → Flagged (now (shown .entry)) (F .ranges) → outcomeOf base (now (part .entry)) r ≡ checkLeft F (stage .todo) (stage .truths) (withFact (now (g .entry)) (stage .fact)) (base + stage .at) (drop (stage .at) (now (part .entry)))) ⌝ }
 {
-    let truths = stage.truths;
     let at = stage.at;
     if part.len() <= at {
         return Past::Refused(11, at);
@@ -105,6 +104,7 @@ pub fn tree(
     let todo = stage.todo;
     let decided = left.len() - todo;
     if node == 1 {
+        let truths = stage.truths;
         return false_leaf(kinds, truths, decided, part, at);
     }
     if node == 2 {

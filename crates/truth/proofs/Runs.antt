@@ -7,12 +7,54 @@ use native.Mathlib.Numerals.{add-one}
 use native.Mathlib.Omega.{arith}
 use lib.ListN.{length, getD, drop, set, drop-of-length-le}
 use lib.Seq.{drop-cons, getD-set-same, getD-set-other}
-use Rattle.truth.specs.declared.truths.Truth.{Truth}
-use Rattle.truth.specs.declared.truths.Truth.the-variants.{Fails}
 use Rattle.page_formulas.specs.Program.{two}
 use Rattle.page_formulas.specs.Knowledge.{Three, fails, passes, open?, and3, or3, not3, next, later, top3}
 use Rattle.page_formulas.specs.Kinds.{kindStep, runKinds, knownKinds}
-use Rattle.truth.specs.Cells.{threeOf, bit, stackOf, joinedBy, pushedBy}
+use Rattle.truth.specs.Cells.{codeOf, bit, stackOf, joinedBy, pushedBy}
+
+-- ---- codes: and is the lesser, or the greater
+
+pub and-second : (a b : ℕ) → b < a → codeOf b ≡ and3 (codeOf a) (codeOf b)
+and-second zero b h = absurd (omega arith)
+and-second (suc zero) zero h = refl
+and-second (suc zero) (suc b) h = absurd (omega arith)
+and-second (suc (suc a)) zero h = refl
+and-second (suc (suc a)) (suc zero) h = refl
+and-second (suc (suc a)) (suc (suc b)) h = refl
+
+pub and-first : (a b : ℕ) → a ≤ b → codeOf a ≡ and3 (codeOf a) (codeOf b)
+and-first zero b h = refl
+and-first (suc zero) zero h = absurd (omega arith)
+and-first (suc zero) (suc zero) h = refl
+and-first (suc zero) (suc (suc b)) h = refl
+and-first (suc (suc a)) zero h = absurd (omega arith)
+and-first (suc (suc a)) (suc zero) h = absurd (omega arith)
+and-first (suc (suc a)) (suc (suc b)) h = refl
+
+pub or-first : (a b : ℕ) → b < a → codeOf a ≡ or3 (codeOf a) (codeOf b)
+or-first zero b h = absurd (omega arith)
+or-first (suc zero) zero h = refl
+or-first (suc zero) (suc b) h = absurd (omega arith)
+or-first (suc (suc a)) zero h = refl
+or-first (suc (suc a)) (suc zero) h = refl
+or-first (suc (suc a)) (suc (suc b)) h = refl
+
+pub or-second : (a b : ℕ) → a ≤ b → codeOf b ≡ or3 (codeOf a) (codeOf b)
+or-second zero b h = refl
+or-second (suc zero) zero h = absurd (omega arith)
+or-second (suc zero) (suc zero) h = refl
+or-second (suc zero) (suc (suc b)) h = refl
+or-second (suc (suc a)) zero h = absurd (omega arith)
+or-second (suc (suc a)) (suc zero) h = absurd (omega arith)
+or-second (suc (suc a)) (suc (suc b)) h = refl
+
+pub code-open : (a : ℕ) → a ≡ 1 → codeOf a ≡ open?
+code-open a e = rw e
+
+pub code-true : (a : ℕ) → ¬ (a ≡ 0) → ¬ (a ≡ 1) → codeOf a ≡ passes
+code-true zero f g = absurd (f refl)
+code-true (suc zero) f g = absurd (g refl)
+code-true (suc (suc a)) f g = refl
 
 -- ---- what one kind makes
 
@@ -62,12 +104,12 @@ later-drop (d ∷ ds) (suc n) = later-drop ds n
 
 -- ---- the stack in cells
 
-below : (cells : List Truth) (v : Truth) (i h : ℕ) → h ≤ i → stackOf (set cells i v) h ≡ stackOf cells h
+below : (cells : List ℕ) (v : ℕ) (i h : ℕ) → h ≤ i → stackOf (set cells i v) h ≡ stackOf cells h
 below cells v i zero l = refl
-below cells v i (suc h) l = ap₂ (λ a st. threeOf a ∷ st) (getD-set-other cells i h v Fails (omega arith)) (below cells v i h (omega arith))
+below cells v i (suc h) l = ap₂ (λ a st. codeOf a ∷ st) (getD-set-other cells i h v 0 (omega arith)) (below cells v i h (omega arith))
 
-put : (cells : List Truth) (v : Truth) (h : ℕ) → h < length cells → stackOf (set cells h v) (suc h) ≡ threeOf v ∷ stackOf cells h
-put cells v h l = ap₂ (λ a st. threeOf a ∷ st) (getD-set-same cells h v Fails l) (below cells v h h (omega arith))
+put : (cells : List ℕ) (v : ℕ) (h : ℕ) → h < length cells → stackOf (set cells h v) (suc h) ≡ codeOf v ∷ stackOf cells h
+put cells v h l = ap₂ (λ a st. codeOf a ∷ st) (getD-set-same cells h v 0 l) (below cells v h h (omega arith))
 
 -- ---- one turn: what the rest makes of the new stack is what it made of the old
 
@@ -87,11 +129,11 @@ module _ (kinds truths : List ℕ) where
     unfolding Rest runKinds
     passed st e = rw (add-one i, drop-cons kinds i 0 l, e, add-one n, ← later-drop (map bit truths) n)
 
-    module _ (cells : List Truth) where
-      pub rest-place : (h : ℕ) (v : Truth) → h < length cells → getD kinds i 0 ≡ 0 → threeOf v ≡ pushedBy (getD kinds i 0) truths n → Rest (n + 1) (i + 1) (stackOf (set cells h v) (h + 1)) ≡ Rest n i (stackOf cells h)
+    module _ (cells : List ℕ) where
+      pub rest-place : (h : ℕ) (v : ℕ) → h < length cells → getD kinds i 0 ≡ 0 → codeOf v ≡ pushedBy (getD kinds i 0) truths n → Rest (n + 1) (i + 1) (stackOf (set cells h v) (h + 1)) ≡ Rest n i (stackOf cells h)
       rest-place h v b e p = rw (add-one h, put cells v h b, p, pushed-place (getD kinds i 0) truths n e) (passed (stackOf cells h) e)
 
-      pub rest-constant : (h : ℕ) (v : Truth) → h < length cells → 4 ≤ getD kinds i 0 → threeOf v ≡ pushedBy (getD kinds i 0) truths n → Rest n (i + 1) (stackOf (set cells h v) (h + 1)) ≡ Rest n i (stackOf cells h)
+      pub rest-constant : (h : ℕ) (v : ℕ) → h < length cells → 4 ≤ getD kinds i 0 → codeOf v ≡ pushedBy (getD kinds i 0) truths n → Rest n (i + 1) (stackOf (set cells h v) (h + 1)) ≡ Rest n i (stackOf cells h)
       rest-constant h v b e p = rw (add-one h, put cells v h b, p) (pick (getD kinds i 0) refl e)
         where
           pick : (k : ℕ) → getD kinds i 0 ≡ k → 4 ≤ k → Rest n (i + 1) (pushedBy k truths n ∷ stackOf cells h) ≡ Rest n i (stackOf cells h)
@@ -102,7 +144,7 @@ module _ (kinds truths : List ℕ) where
           pick (suc (suc (suc (suc zero)))) d g = stays 4 (stackOf cells h) d (omega arith)
           pick (suc (suc (suc (suc (suc k))))) d g = stays (suc (suc (suc (suc (suc k))))) (stackOf cells h) d (omega arith)
 
-      pub rest-not : (h : ℕ) (v : Truth) → 1 ≤ h → h ≤ length cells → getD kinds i 0 ≡ 3 → threeOf v ≡ not3 (threeOf (getD cells (h - 1) Fails)) → Rest n (i + 1) (stackOf (set cells (h - 1) v) h) ≡ Rest n i (stackOf cells h)
+      pub rest-not : (h : ℕ) (v : ℕ) → 1 ≤ h → h ≤ length cells → getD kinds i 0 ≡ 3 → codeOf v ≡ not3 (codeOf (getD cells (h - 1) 0)) → Rest n (i + 1) (stackOf (set cells (h - 1) v) h) ≡ Rest n i (stackOf cells h)
       rest-not zero v a b e p = absurd (omega arith)
       rest-not (suc h) v a b e p = let d : suc h - 1 ≡ h = omega arith in rw (d, put cells v h b, rw d at p) (stays 3 (stackOf cells (suc h)) e (omega arith))
 
@@ -116,7 +158,7 @@ module _ (kinds truths : List ℕ) where
       join-step (suc (suc zero)) st e f g = stays 2 st e (omega arith)
       join-step (suc (suc (suc k))) st e f g = absurd (omega arith)
 
-      pub rest-join : (h : ℕ) (v : Truth) → 2 ≤ h → h ≤ length cells → ¬ (getD kinds i 0 ≡ 0) → getD kinds i 0 < 3 → threeOf v ≡ joinedBy (getD kinds i 0) (threeOf (getD cells (h - 2) Fails)) (threeOf (getD cells (h - 1) Fails)) → Rest n (i + 1) (stackOf (set cells (h - 2) v) (h - 1)) ≡ Rest n i (stackOf cells h)
+      pub rest-join : (h : ℕ) (v : ℕ) → 2 ≤ h → h ≤ length cells → ¬ (getD kinds i 0 ≡ 0) → getD kinds i 0 < 3 → codeOf v ≡ joinedBy (getD kinds i 0) (codeOf (getD cells (h - 2) 0)) (codeOf (getD cells (h - 1) 0)) → Rest n (i + 1) (stackOf (set cells (h - 2) v) (h - 1)) ≡ Rest n i (stackOf cells h)
       rest-join zero v a b f e p = absurd (omega arith)
       rest-join (suc zero) v a b f e p = absurd (omega arith)
       rest-join (suc (suc h)) v a b f e p =
@@ -129,7 +171,7 @@ module _ (kinds truths : List ℕ) where
       rest-join-short (suc zero) b f e = join-step (getD kinds i 0) (stackOf cells 1) refl f e
       rest-join-short (suc (suc h)) b f e = absurd (omega arith)
 
-pub stack-top : (cells : List Truth) (h : ℕ) → 0 < h → top3 (stackOf cells h) ≡ threeOf (getD cells (h - 1) Fails)
+pub stack-top : (cells : List ℕ) (h : ℕ) → 0 < h → top3 (stackOf cells h) ≡ codeOf (getD cells (h - 1) 0)
 stack-top cells zero l = absurd (omega arith)
 stack-top cells (suc h) l = let d : suc h - 1 ≡ h = omega arith in rw d
 

@@ -1,4 +1,4 @@
--- How the code keeps the three values: an enum, on a stack of cells; a decision is a byte.
+-- How the code keeps the three values: an enum, and a code on a stack of cells; a decision is a byte.
 use Prim.Native.Nat.{ℕ, zero, suc}
 use mathlib.Core.Bool.{Bool, true, false}
 use mathlib.Core.List.{List, [], _∷_, map}
@@ -13,15 +13,21 @@ threeOf Fails = fails
 threeOf Passes = passes
 threeOf Open = open?
 
+-- and a code on the stack: 0 false, 1 open, 2 true
+abbrev pub codeOf : ℕ → Three
+codeOf zero = fails
+codeOf (suc zero) = open?
+codeOf (suc (suc n)) = passes
+
 -- a decision: 0 false, else true
 abbrev pub bit : ℕ → Bool
 bit zero = false
 bit (suc n) = true
 
 -- the stack that the first h cells hold, the last on top
-abbrev pub stackOf : List Truth → ℕ → List Three
+abbrev pub stackOf : List ℕ → ℕ → List Three
 stackOf cells zero = []
-stackOf cells (suc h) = threeOf (getD cells h Fails) ∷ stackOf cells h
+stackOf cells (suc h) = codeOf (getD cells h 0) ∷ stackOf cells h
 
 -- what the kinds 1 and 2 make of two values
 abbrev pub joinedBy : ℕ → Three → Three → Three

@@ -7,7 +7,7 @@ ghost use mathlib.Core.List.{map};
 ghost use lib.ListN.{length};
 ghost use Rattle.page_formulas.specs.Knowledge.{and3, or3, not3};
 ghost use Rattle.page_formulas.specs.Kinds.{knownKinds};
-ghost use Rattle.truth.specs.Cells.{threeOf, joinedBy, pushedBy, bit};
+ghost use Rattle.truth.specs.Cells.{threeOf, codeOf, joinedBy, pushedBy, bit};
 
 pub enum Truth {
     Fails,
@@ -15,72 +15,63 @@ pub enum Truth {
     Open,
 }
 
-// And: false if a part is.
-fn both(a: Truth, b: Truth) -> Truth
-    ensures { λ r. ⌜ threeOf r ≡ and3 (threeOf a) (threeOf b) ⌝ }
+// On the stack a value is a code, 0 false, 1 open, 2 true: and is the lesser, or the greater.
+fn both(a: u8, b: u8) -> u8
+    ensures { λ r. ⌜ codeOf r ≡ and3 (codeOf a) (codeOf b) ⌝ }
 {
-    match a {
-        Truth::Fails => Truth::Fails,
-        Truth::Passes => b,
-        Truth::Open => match b {
-            Truth::Fails => Truth::Fails,
-            Truth::Passes => Truth::Open,
-            Truth::Open => Truth::Open,
-        },
-    }
+    if b < a { b } else { a }
 }
 
-// Or: true if a part is.
-fn either(a: Truth, b: Truth) -> Truth
-    ensures { λ r. ⌜ threeOf r ≡ or3 (threeOf a) (threeOf b) ⌝ }
+fn either(a: u8, b: u8) -> u8
+    ensures { λ r. ⌜ codeOf r ≡ or3 (codeOf a) (codeOf b) ⌝ }
 {
-    match a {
-        Truth::Passes => Truth::Passes,
-        Truth::Fails => b,
-        Truth::Open => match b {
-            Truth::Passes => Truth::Passes,
-            Truth::Fails => Truth::Open,
-            Truth::Open => Truth::Open,
-        },
-    }
+    if b < a { a } else { b }
 }
 
 // Not.
-fn opposite(a: Truth) -> Truth
-    ensures { λ r. ⌜ threeOf r ≡ not3 (threeOf a) ⌝ }
+fn opposite(a: u8) -> u8
+    ensures { λ r. ⌜ codeOf r ≡ not3 (codeOf a) ⌝ }
 {
-    match a {
-        Truth::Fails => Truth::Passes,
-        Truth::Passes => Truth::Fails,
-        Truth::Open => Truth::Open,
+    if a == 0 {
+        return 2;
     }
+    if a == 1 { 1 } else { 0 }
 }
 
 // What an and (1) or an or (2) makes of the two top entries.
-fn joined(kind: u8, a: Truth, b: Truth) -> Truth
-    ensures { λ r. ⌜ threeOf r ≡ joinedBy kind (threeOf a) (threeOf b) ⌝ }
+fn joined(kind: u8, a: u8, b: u8) -> u8
+    ensures { λ r. ⌜ codeOf r ≡ joinedBy kind (codeOf a) (codeOf b) ⌝ }
 {
     if kind == 1 { both(a, b) } else { either(a, b) }
 }
 
 // What a place (0), true (4) or false (5) pushes.
-fn pushed(kind: u8, truths: &[u8], next: usize) -> Truth
-    ensures { λ r. ⌜ threeOf r ≡ pushedBy kind (now (truths .entry)) next ⌝ }
+fn pushed(kind: u8, truths: &[u8], next: usize) -> u8
+    ensures { λ r. ⌜ codeOf r ≡ pushedBy kind (now (truths .entry)) next ⌝ }
 {
     if kind == 4 {
-        return Truth::Passes;
+        return 2;
     }
     if kind != 0 {
-        return Truth::Fails;
+        return 0;
     }
     if truths.len() <= next {
+        return 1;
+    }
+    if truths[next] == 0 { 0 } else { 2 }
+}
+
+// What a code says.
+fn told(code: u8) -> Truth
+    ensures { λ r. ⌜ threeOf r ≡ codeOf code ⌝ }
+{
+    if code == 0 {
+        return Truth::Fails;
+    }
+    if code == 1 {
         return Truth::Open;
     }
-    if truths[next] == 0 {
-        Truth::Fails
-    } else {
-        Truth::Passes
-    }
+    Truth::Passes
 }
 
 // Of a program, given by the kinds of its instructions, under the truths of its first places (0 false, else true).
@@ -88,7 +79,7 @@ pub fn known(kinds: &[u8], truths: &[u8]) -> Truth
     requires { ⌜ length (now kinds) ≤ mostInstructions ⌝ }
     ensures { λ r. ⌜ threeOf r ≡ knownKinds (now (kinds .entry)) (map bit (now (truths .entry))) ⌝ }
 {
-    let mut cells = [Truth::Fails; INSTRUCTIONS];
+    let mut cells = [0u8; INSTRUCTIONS];
     let mut height: usize = 0;
     let mut next: usize = 0;
     let mut i: usize = 0;
@@ -123,6 +114,5 @@ pub fn known(kinds: &[u8], truths: &[u8]) -> Truth
     if height == 0 {
         return Truth::Passes;
     }
-    let t = cells[height - 1];
-    t
+    told(cells[height - 1])
 }

@@ -4,7 +4,7 @@ use closure::relax_in;
 use cycles::search;
 use facts::start;
 use grid::edge;
-use grid::tighten;
+use grid::enter;
 use ints::weights::negation;
 use limits::INSTRUCTIONS;
 use limits::PLACES;
@@ -88,7 +88,8 @@ fn put_search(
     requires { ⌜ (last < mostVertices) × Kept (now g) × Fact last (e .from) (e .to) (e .weight) ⌝ }
     ensures { λ r. ⌜ filling (now (room .exit)) r ≡ puts (filling (now (room .entry)) spot) (bytesOf (cycle (cycleOf (search (weight (tighten (now (g .entry)) (e .from) (e .to) (e .weight))) last)))) ⌝ }
 {
-    let facts = tighten(g, e.from, e.to, e.weight);
+    let mut facts = *g;
+    enter(&mut facts, e.from, e.to, e.weight);
     let c = search(&facts, last + 1);
     let vertices = c.vertices;
     put_cycle(room, spot, vertices, c.count)
@@ -174,7 +175,8 @@ fn side(
             if n.undecided == 0 {
                 return spot;
             }
-            let facts = tighten(g, e.from, e.to, e.weight);
+            let mut facts = *g;
+            enter(&mut facts, e.from, e.to, e.weight);
             let mut closer = *near;
             relax_in(&mut closer, n.last + 1, e.from, e.to, e.weight);
             branch(room, n, kinds, left, right, most, &facts, &closer)

@@ -226,7 +226,7 @@ branch-returns-2 t c = λ F base lent shows.
     (half-says t u _ (c .before .one2 .given .1) (l .truth) refl (l .at) refl F base lent shows)
 
 tree-returns : (t : ℕ) → tree-lts.Need-returns (tree-calls t) (tree-at t) tree.Post
-tree-returns t c = λ F base lent shows. let a = c .before .before .before .before .before .before .before .args in left-end F (a .stage .truths) (withFact (a .g .now) (a .stage .fact)) (a .part .now) (a .stage .at) base (a .stage .todo) (c .if1 .taken)
+tree-returns t c = λ F base lent shows. let a = c .before .before .before .before .before .before .args in left-end F (a .stage .truths) (withFact (a .g .now) (a .stage .fact)) (a .part .now) (a .stage .at) base (a .stage .todo) (c .if1 .taken)
 
 tree-shared-slice-read-node : (t : ℕ) → tree-lts.Need-shared-slice-read-node (tree-calls t) (tree-at t) tree.Post
 tree-shared-slice-read-node t c = search needs
@@ -235,33 +235,33 @@ tree-sub-decided : (t : ℕ) → tree-lts.Need-sub-decided (tree-calls t) (tree-
 tree-sub-decided t c = search needs
 
 tree-false-leaf-requires : (t : ℕ) → tree-lts.Need-false-leaf-requires (tree-calls t) (tree-at t) tree.Post
-tree-false-leaf-requires t c κs = let s = c .before .before .before .before .before .before .before .before .before in (s .pre .1 .0 .short, omega (arith, s .pre .1 .0 .places .few), c .before .before .if1 .left)
+tree-false-leaf-requires t c κs = let s = c .before .before .before .before .before .before .before .before .before in (s .pre .1 .0 .short, omega (arith, s .pre .1 .0 .places .few), c .before .before .before .if1 .left)
 
 tree-returns-2 : (t : ℕ) → tree-lts.Need-returns-2 (tree-calls t) (tree-at t) tree.Post
 tree-returns-2 t c = λ F base lent shows.
     let a = c .before .before .before .before .before .before .before .before .before .before .args in
-    c .false-leaf .ensures base ∙ rw (lent .kinds) (left-false F (a .stage .truths) (withFact (a .g .now) (a .stage .fact)) (a .part .now) (a .stage .at) base (a .stage .todo) (c .before .before .before .if1 .left) (length (a .left .now) - a .stage .todo) (ap (λ n. n - a .stage .todo) (ap length (lent .left) ∙ simp length-map)) (c .before .if2 .taken))
+    c .false-leaf .ensures base ∙ rw (lent .kinds) (left-false F (a .stage .truths) (withFact (a .g .now) (a .stage .fact)) (a .part .now) (a .stage .at) base (a .stage .todo) (c .before .before .before .before .if1 .left) (length (a .left .now) - a .stage .todo) (ap (λ n. n - a .stage .todo) (ap length (lent .left) ∙ simp length-map)) (c .before .before .if2 .taken))
 
 tree-cycle-requires : (t : ℕ) → tree-lts.Need-cycle-requires (tree-calls t) (tree-at t) tree.Post
-tree-cycle-requires t c κs = let s = c .before .before .before .before .before .before .before .before .before .before in let k = s .pre .1 .1 .1 in ((s .pre .1 .0 .flags, c .before .before .before .if1 .left), (k .sized, k .small, k .from-is, k .to-is))
+tree-cycle-requires t c κs = let s = c .before .before .before .before .before .before .before .before .before in let k = s .pre .1 .1 .1 in ((s .pre .1 .0 .flags, c .before .before .before .if1 .left), (k .sized, k .small, k .from-is, k .to-is))
 
 tree-returns-3 : (t : ℕ) → tree-lts.Need-returns-3 (tree-calls t) (tree-at t) tree.Post
 tree-returns-3 t c = λ F base lent shows.
-    let a = c .before .before .before .before .before .before .before .before .before .before .before .args in
+    let a = c .before .before .before .before .before .before .before .before .before .before .args in
     c .cycle .ensures F base shows ∙ left-cycle F (a .stage .truths) (withFact (a .g .now) (a .stage .fact)) (a .part .now) (a .stage .at) base (a .stage .todo) (c .before .before .before .before .if1 .left) (c .before .if3 .taken)
 
 tree-returns-4 : (t : ℕ) → tree-lts.Need-returns-4 (tree-calls t) (tree-at t) tree.Post
 tree-returns-4 t c = λ F base lent shows.
-    let a = c .before .before .before .before .before .before .before .before .before .before .before .args in
+    let a = c .before .before .before .before .before .before .before .before .before .before .args in
     left-other F (a .stage .truths) (withFact (a .g .now) (a .stage .fact)) (a .part .now) (a .stage .at) base (a .stage .todo) (c .before .before .before .before .if1 .left) (c .before .before .if2 .left) (c .before .if3 .left) (c .if4 .taken)
 
 tree-returns-5 : (t : ℕ) → tree-lts.Need-returns-5 (tree-calls t) (tree-at t) tree.Post
 tree-returns-5 t c = λ F base lent shows.
-    let a = c .before .before .before .before .before .before .before .before .before .before .before .before .args in
+    let a = c .before .before .before .before .before .before .before .before .before .before .before .args in
     left-none F (a .stage .truths) (withFact (a .g .now) (a .stage .fact)) (a .part .now) (a .stage .at) base (a .stage .todo) (c .before .before .before .before .before .if1 .left) (c .before .if4 .left) (c .if5 .taken)
 
 tree-branch-requires : (t : ℕ) → tree-lts.Need-branch-requires (tree-calls t) (tree-at t) tree.Post
-tree-branch-requires t c κs = let s = c .before .before .before .before .before .before .before .before .before .before .before .before in (omega (arith, s .pre .0), (s .pre .1 .0, (s .pre .1 .1, (omega (arith, c .if5 .left), c .before .before .before .before .before .if1 .left, c .before .if4 .left))))
+tree-branch-requires t c κs = let s = c .before .before .before .before .before .before .before .before .before .before .before in (omega (arith, s .pre .0), (s .pre .1 .0, (s .pre .1 .1, (omega (arith, c .if5 .left), c .before .before .before .before .before .if1 .left, c .before .if4 .left))))
 
 tree-returns-6 : (t : ℕ) → tree-lts.Need-returns-6 (tree-calls t) (tree-at t) tree.Post
 tree-returns-6 t c = c .branch .ensures

@@ -7,9 +7,8 @@ use mathlib.Core.List.{[]}
 use lib.ListN.{length, getD}
 use denote.Ref.{now}
 use Rattle.page_formulas.specs.Costs.{mostInstructions}
-use Rattle.truth.specs.Cells.{stackOf, threeOf}
+use Rattle.truth.specs.Cells.{stackOf, codeOf}
 use Rattle.page_formulas.specs.Knowledge.{passes}
-use Rattle.truth.specs.declared.truths.Truth.the-variants.{Fails}
 use Rattle.truth.proofs.Runs.{Rest, rest-place, rest-constant, rest-not, rest-not-empty, rest-join, rest-join-short, rest-known, stack-top}
 use Rattle.truth.proofs.truths.known.Statement.{statement}
 use Rattle.truth.proofs.truths.known.Tie as tie
@@ -33,8 +32,8 @@ add-i c = search needs
 pushed-requires : tie.Need-pushed-requires Inv-loop μ-loop
 pushed-requires c κs = search needs
 
-array-set-from-cells : tie.Need-array-set-from-cells Inv-loop μ-loop
-array-set-from-cells c = search needs
+array-write-cells : tie.Need-array-write-cells Inv-loop μ-loop
+array-write-cells c = search needs
 
 add-height : tie.Need-add-height Inv-loop μ-loop
 add-height c = search needs
@@ -59,8 +58,8 @@ loop-again c =
 pushed-requires-2 : tie.Need-pushed-requires-2 Inv-loop μ-loop
 pushed-requires-2 c κs = search needs
 
-array-set-from-cells-2 : tie.Need-array-set-from-cells-2 Inv-loop μ-loop
-array-set-from-cells-2 c = search needs
+array-write-cells-2 : tie.Need-array-write-cells-2 Inv-loop μ-loop
+array-write-cells-2 c = search needs
 
 add-height-2 : tie.Need-add-height-2 Inv-loop μ-loop
 add-height-2 c = search needs
@@ -79,27 +78,27 @@ loop-again-2 c =
       rest-constant (args .kinds .now) (args .truths .now) (at .i) (at .next) (c .before .before .before .before .loop-test .taken) (at .cells) (at .height) (c .pushed2 .result) (omega arith) (c .before .if2 .taken) (c .pushed2 .ensures) ∙ at .inv .4,
     )
 
-array-copy-out-a : tie.Need-array-copy-out-a Inv-loop μ-loop
-array-copy-out-a c = search needs
+array-read-a : tie.Need-array-read-a Inv-loop μ-loop
+array-read-a c = search needs
 
 opposite-requires : tie.Need-opposite-requires Inv-loop μ-loop
 opposite-requires c κs = search needs
 
-array-set-from-cells-3 : tie.Need-array-set-from-cells-3 Inv-loop μ-loop
-array-set-from-cells-3 c = search needs
+array-write-cells-3 : tie.Need-array-write-cells-3 Inv-loop μ-loop
+array-write-cells-3 c = search needs
 
 loop-less-3 : tie.Need-loop-less-3 Inv-loop μ-loop
 loop-less-3 c = search needs
 
 loop-again-3 : tie.Need-loop-again-3 Inv-loop μ-loop
 loop-again-3 c =
-    let at = c .before .before .before .before .before .before .before .before .loop in
-    let args = c .before .before .before .before .before .before .before .before .before .before .before .args in (
+    let at = c .before .before .before .before .before .before .before .loop in
+    let args = c .before .before .before .before .before .before .before .before .before .before .args in (
       search needs,
       search needs,
       search needs,
       search needs,
-      rest-not (args .kinds .now) (args .truths .now) (at .i) (at .next) (c .before .before .before .before .before .before .before .loop-test .taken) (at .cells) (at .height) (c .opposite .result) (c .before .before .if4 .taken) (omega arith) (c .before .before .before .if3 .taken) (c .opposite .ensures) ∙ at .inv .4,
+      rest-not (args .kinds .now) (args .truths .now) (at .i) (at .next) (c .before .before .before .before .before .before .loop-test .taken) (at .cells) (at .height) (c .opposite .result) (c .before .if4 .taken) (omega arith) (c .before .before .if3 .taken) (c .opposite .ensures) ∙ at .inv .4,
     )
 
 loop-less-4 : tie.Need-loop-less-4 Inv-loop μ-loop
@@ -116,20 +115,20 @@ loop-again-4 c =
       rest-not-empty (args .kinds .now) (args .truths .now) (at .i) (at .next) (c .before .before .before .before .before .loop-test .taken) (at .cells) (at .height) (c .if4 .left) (c .before .if3 .taken) ∙ at .inv .4,
     )
 
-array-copy-out-a-2 : tie.Need-array-copy-out-a-2 Inv-loop μ-loop
-array-copy-out-a-2 c = search needs
+array-read-a-2 : tie.Need-array-read-a-2 Inv-loop μ-loop
+array-read-a-2 c = search needs
 
 sub-b : tie.Need-sub-b Inv-loop μ-loop
 sub-b c = search needs
 
-array-copy-out-b : tie.Need-array-copy-out-b Inv-loop μ-loop
-array-copy-out-b c = search needs
+array-read-b : tie.Need-array-read-b Inv-loop μ-loop
+array-read-b c = search needs
 
 joined-requires : tie.Need-joined-requires Inv-loop μ-loop
 joined-requires c κs = search needs
 
-array-set-from-cells-4 : tie.Need-array-set-from-cells-4 Inv-loop μ-loop
-array-set-from-cells-4 c = search needs
+array-write-cells-4 : tie.Need-array-write-cells-4 Inv-loop μ-loop
+array-write-cells-4 c = search needs
 
 sub-height : tie.Need-sub-height Inv-loop μ-loop
 sub-height c = search needs
@@ -139,13 +138,13 @@ loop-less-5 c = search needs
 
 loop-again-5 : tie.Need-loop-again-5 Inv-loop μ-loop
 loop-again-5 c =
-    let at = c .before .before .before .before .before .before .before .before .before .loop in
-    let args = c .before .before .before .before .before .before .before .before .before .before .before .before .args in (
+    let at = c .before .before .before .before .before .before .before .loop in
+    let args = c .before .before .before .before .before .before .before .before .before .before .args in (
       search needs,
       search needs,
       search needs,
       search needs,
-      rest-join (args .kinds .now) (args .truths .now) (at .i) (at .next) (c .before .before .before .before .before .before .before .before .loop-test .taken) (at .cells) (at .height) (c .joined .result) (c .before .before .before .if5 .taken) (omega arith) (c .before .before .before .before .before .before .if1 .left) (omega arith) (c .joined .ensures) ∙ at .inv .4,
+      rest-join (args .kinds .now) (args .truths .now) (at .i) (at .next) (c .before .before .before .before .before .before .loop-test .taken) (at .cells) (at .height) (c .joined .result) (c .before .if5 .taken) (omega arith) (c .before .before .before .before .if1 .left) (omega arith) (c .joined .ensures) ∙ at .inv .4,
     )
 
 loop-less-6 : tie.Need-loop-less-6 Inv-loop μ-loop
@@ -168,17 +167,21 @@ returns c =
     let args = c .before .before .before .before .before .args in
     rest-known (args .kinds .now) (args .truths .now) (at .next) (at .i) (stackOf (at .cells) (at .height)) (c .before .loop-test .left) (at .inv .4) passes (rw (c .if6 .taken) refl)
 
-sub-t : tie.Need-sub-t Inv-loop μ-loop
-sub-t c = search needs
+sub-told : tie.Need-sub-told Inv-loop μ-loop
+sub-told c = search needs
 
-array-copy-out-t : tie.Need-array-copy-out-t Inv-loop μ-loop
-array-copy-out-t c = search needs
+array-read-told : tie.Need-array-read-told Inv-loop μ-loop
+array-read-told c = search needs
+
+told-requires : tie.Need-told-requires Inv-loop μ-loop
+told-requires c κs = search needs
 
 returns-2 : tie.Need-returns-2 Inv-loop μ-loop
 returns-2 c =
     let at = c .before .before .before .loop in
     let args = c .before .before .before .before .before .before .args in
-    rest-known (args .kinds .now) (args .truths .now) (at .next) (at .i) (stackOf (at .cells) (at .height)) (c .before .before .loop-test .left) (at .inv .4) (threeOf (getD (at .cells) (at .height - 1) Fails)) (stack-top (at .cells) (at .height) (omega (arith, c .before .if6 .left)))
+    c .told .ensures
+    ∙ rest-known (args .kinds .now) (args .truths .now) (at .next) (at .i) (stackOf (at .cells) (at .height)) (c .before .before .loop-test .left) (at .inv .4) (codeOf (getD (at .cells) (at .height - 1) 0)) (stack-top (at .cells) (at .height) (omega (arith, c .before .if6 .left)))
 
 pub known-spec : {M : Type 1} → statement M
 known-spec =
@@ -190,34 +193,35 @@ known-spec =
     shared-slice-read-k
     add-i
     pushed-requires
-    array-set-from-cells
+    array-write-cells
     add-height
     add-next
     loop-less
     loop-again
     pushed-requires-2
-    array-set-from-cells-2
+    array-write-cells-2
     add-height-2
     loop-less-2
     loop-again-2
-    array-copy-out-a
+    array-read-a
     opposite-requires
-    array-set-from-cells-3
+    array-write-cells-3
     loop-less-3
     loop-again-3
     loop-less-4
     loop-again-4
-    array-copy-out-a-2
+    array-read-a-2
     sub-b
-    array-copy-out-b
+    array-read-b
     joined-requires
-    array-set-from-cells-4
+    array-write-cells-4
     sub-height
     loop-less-5
     loop-again-5
     loop-less-6
     loop-again-6
     returns
-    sub-t
-    array-copy-out-t
+    sub-told
+    array-read-told
+    told-requires
     returns-2)

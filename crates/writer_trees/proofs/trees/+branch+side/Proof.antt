@@ -36,7 +36,7 @@ use Rattle.writer_trees.proofs.trees.side.Kinds as side-kinds
 use Rattle.writer_trees.proofs.trees.+branch+side.Lts-side as side-lts
 use Rattle.closure.proofs.relax_in.Reads as relax-in-reads
 use Rattle.grid.proofs.edge.Reads as edge-reads
-use Rattle.grid.proofs.tighten.Reads as tighten-reads
+use Rattle.grid.proofs.enter.Reads as enter-reads
 use Rattle.ints.proofs.weights.negation.Reads as negation-reads
 use Rattle.room.proofs.put.Reads as put-reads
 use Rattle.writer_trees.proofs.trees.half_at.Reads as half-at-reads
@@ -67,7 +67,7 @@ abbrev branch-calls : ℕ → branch-lts.Claims
 branch-calls t = (put-reads.Asked, put-reads.Learnt, half-at-reads.Asked, half-at-reads.Learnt, side-below t, side.Post, negation-reads.Asked, negation-reads.Learnt)
 
 abbrev side-calls : ℕ → side-lts.Claims
-side-calls t = (known-so-far-reads.Asked, known-so-far-reads.Learnt, edge-reads.Asked, edge-reads.Learnt, cut-reads.Asked, cut-reads.Learnt, put-reads.Asked, put-reads.Learnt, tighten-reads.Asked, tighten-reads.Learnt, relax-in-reads.Asked, relax-in-reads.Learnt, branch-below t, branch.Post)
+side-calls t = (known-so-far-reads.Asked, known-so-far-reads.Learnt, edge-reads.Asked, edge-reads.Learnt, cut-reads.Asked, cut-reads.Learnt, put-reads.Asked, put-reads.Learnt, enter-reads.Asked, enter-reads.Learnt, relax-in-reads.Asked, relax-in-reads.Learnt, branch-below t, branch.Post)
 
 -- the next place is a fact, taken so
 place-fact : (t : ℕ) (s : branch-lts.Start (branch-calls t) (branch-at t) branch.Post) (d : Bool) → let a = s .args in let p = placeAt (now (a .left)) (now (a .right)) (now (a .most)) (length (now (a .most)) - a .n .undecided) in Fact (a .n .last) (taken p d .right) (taken p d .left) (taken p d .most)
@@ -204,32 +204,32 @@ side-returns-3 t c =
     let a = c .before .before .before .before .before .before .before .before .before .before .before .before .before .before .before .before .before .before .before .args in
     λ F lent. side-end F (now (a .kinds)) (now (a .left)) (now (a .right)) (now (a .most)) lent (now (a .g)) (now (a .near)) (a .h) _ (sum-is t (c .before .before .before .before .before)) (c .before .before .before .before .if2 .left) (sym (c .before .before .before .before .before .before .before .before .before .known-so-far .ensures) ∙ ap threeOf (c .before .before .enum-told3 .given .1)) (omega (arith, c .if3 .taken)) (now (a .room)) _ (a .h .node .spot) _
 
-side-tighten-requires : (t : ℕ) → side-lts.Need-tighten-requires (side-calls t) (side-at t) side.Post
-side-tighten-requires t c κs = let s = c .before .before .before .before .before .before .before .before .before .before .before .before .before .before .before .before .before .before .before .before in (omega (arith, s .pre .1 .2 .from-is, s .pre .1 .3 .places .few), omega (arith, s .pre .1 .2 .to-is, s .pre .1 .3 .places .few), s .pre .1 .3 .kept .sized)
+side-enter-requires : (t : ℕ) → side-lts.Need-enter-requires (side-calls t) (side-at t) side.Post
+side-enter-requires t c κs = let s = c .before .before .before .before .before .before .before .before .before .before .before .before .before .before .before .before .before .before .before .before .before .before in (omega (arith, s .pre .1 .2 .from-is, s .pre .1 .3 .places .few), omega (arith, s .pre .1 .2 .to-is, s .pre .1 .3 .places .few), s .pre .1 .3 .kept .sized)
 
 side-add-relax-in : (t : ℕ) → side-lts.Need-add-relax-in (side-calls t) (side-at t) side.Post
-side-add-relax-in t c = record { fits = omega (arith, c .before .before .before .before .before .before .before .before .before .before .before .before .before .before .before .before .before .before .before .before .before .before .before .before .pre .1 .3 .places .few) }
+side-add-relax-in t c = record { fits = omega (arith, c .before .before .before .before .before .before .before .before .before .before .before .before .before .before .before .before .before .before .before .before .before .before .before .before .before .before .pre .1 .3 .places .few) }
 
 side-relax-in-requires : (t : ℕ) → side-lts.Need-relax-in-requires (side-calls t) (side-at t) side.Post
 side-relax-in-requires t c κs =
-    let s = c .before .before .before .before .before .before .before .before .before .before .before .before .before .before .before .before .before .before .before .before .before .before .before .before .before in
+    let s = c .before .before .before .before .before .before .before .before .before .before .before .before .before .before .before .before .before .before .before .before .before .before .before .before .before .before .before in
     let a = s .args in
     let n = a .h .node in
     ((omega (arith, s .pre .1 .3 .places .few), omega (arith, s .pre .1 .2 .from-is), omega (arith, s .pre .1 .2 .to-is), s .pre .1 .3 .table), (simp (toZ-ofZ, weight-fits t s) (fact-bounded (n .last) (a .h .fact .from) (a .h .fact .to) (a .h .fact .weight) (s .pre .1 .2)), (simp add-one (tight-within (suc (n .last)) (now (a .near)) (s .pre .1 .3 .tight)), subst (λ m. Triangle m (weight (now (a .near)))) (sym (add-one (n .last))) (s .pre .1 .3 .tight .triangle))))
 
 -- the facts that are handed on
-facts-are : (t : ℕ) (c : side-lts.After-tighten (side-calls t) (side-at t) side.Post) → let a = c .before .before .before .before .before .before .before .before .before .before .before .before .before .before .before .before .before .before .before .before .before .args in let e = a .h .fact in c .tighten .result ≡ tighten (now (a .g)) (e .from) (e .to) (e .weight)
-facts-are t c = let s = c .before .before .before .before .before .before .before .before .before .before .before .before .before .before .before .before .before .before .before .before .before in c .tighten .ensures ∙ ap (tighten (now (s .args .g)) (s .args .h .fact .from) (s .args .h .fact .to)) (toZ-ofZ {w = w64} (weight-fits t s))
+facts-are : (t : ℕ) (c : side-lts.After-enter (side-calls t) (side-at t) side.Post) → let a = c .before .before .before .before .before .before .before .before .before .before .before .before .before .before .before .before .before .before .before .before .before .before .before .args in let e = a .h .fact in c .enter .last .0 ≡ tighten (now (a .g)) (e .from) (e .to) (e .weight)
+facts-are t c = let s = c .before .before .before .before .before .before .before .before .before .before .before .before .before .before .before .before .before .before .before .before .before .before .before in c .enter .ensures ∙ ap (tighten (now (s .args .g)) (s .args .h .fact .from) (s .args .h .fact .to)) (toZ-ofZ {w = w64} (weight-fits t s))
 
 -- and their closure
-closer-is : (t : ℕ) (c : side-lts.After-relax-in (side-calls t) (side-at t) side.Post) → let a = c .before .before .before .before .before .before .before .before .before .before .before .before .before .before .before .before .before .before .before .before .before .before .before .before .before .before .args in let e = a .h .fact in c .relax-in .last .0 ≡ tabled (relax (weight (now (a .near))) (e .from) (e .to) (e .weight)) (suc (a .h .node .last)) (now (a .near))
-closer-is t c = let s = c .before .before .before .before .before .before .before .before .before .before .before .before .before .before .before .before .before .before .before .before .before .before .before .before .before .before in let e = s .args .h .fact in c .relax-in .ensures ∙ ap₂ (λ z m. tabled (relax (weight (now (s .args .near))) (e .from) (e .to) z) m (now (s .args .near))) (toZ-ofZ {w = w64} (weight-fits t s)) (add-one (s .args .h .node .last))
+closer-is : (t : ℕ) (c : side-lts.After-relax-in (side-calls t) (side-at t) side.Post) → let a = c .before .before .before .before .before .before .before .before .before .before .before .before .before .before .before .before .before .before .before .before .before .before .before .before .before .before .before .before .args in let e = a .h .fact in c .relax-in .last .0 ≡ tabled (relax (weight (now (a .near))) (e .from) (e .to) (e .weight)) (suc (a .h .node .last)) (now (a .near))
+closer-is t c = let s = c .before .before .before .before .before .before .before .before .before .before .before .before .before .before .before .before .before .before .before .before .before .before .before .before .before .before .before .before in let e = s .args .h .fact in c .relax-in .ensures ∙ ap₂ (λ z m. tabled (relax (weight (now (s .args .near))) (e .from) (e .to) z) m (now (s .args .near))) (toZ-ofZ {w = w64} (weight-fits t s)) (add-one (s .args .h .node .last))
 
 side-branch-requires : (t : ℕ) → side-lts.Need-branch-requires (side-calls t) (side-at t) side.Post
 side-branch-requires t c κs =
-    let s = c .before .before .before .before .before .before .before .before .before .before .before .before .before .before .before .before .before .before .before .before .before .before .before .before .before .before .before .before .before in
+    let s = c .before .before .before .before .before .before .before .before .before .before .before .before .before .before .before .before .before .before .before .before .before .before .before .before .before .before .before .before .before .before .before in
     let a = s .args in
-    (omega (arith, s .pre .0), (s .pre .1 .0, s .pre .1 .1, omega (arith, c .before .before .before .before .before .before .before .before .before .before .if3 .left), ready-handed (a .h .node .last) (now (a .left)) (now (a .right)) (now (a .most)) (now (a .g)) (now (a .near)) (s .pre .1 .3) (a .h .fact .from) (a .h .fact .to) (a .h .fact .weight) (s .pre .1 .2) _ _ _ (sum-is t (c .before .before .before .before .before .before .before .before .before .before .before .before .before .before .before)) (facts-are t (c .before .before .before .before .before .before .before .before)) (closer-is t (c .before .before .before)) (c .before .before .before .before .before .before .before .before .before .before .before .before .before .before .if2 .left)))
+    (omega (arith, s .pre .0), (s .pre .1 .0, s .pre .1 .1, omega (arith, c .before .before .before .before .before .before .before .before .before .before .before .before .if3 .left), ready-handed (a .h .node .last) (now (a .left)) (now (a .right)) (now (a .most)) (now (a .g)) (now (a .near)) (s .pre .1 .3) (a .h .fact .from) (a .h .fact .to) (a .h .fact .weight) (s .pre .1 .2) _ _ _ (sum-is t (c .before .before .before .before .before .before .before .before .before .before .before .before .before .before .before .before .before)) (facts-are t (c .before .before .before .before .before .before .before .before)) (closer-is t (c .before .before .before)) (c .before .before .before .before .before .before .before .before .before .before .before .before .before .before .before .before .if2 .left)))
 
 side-same-length-2 : (t : ℕ) → side-lts.Need-same-length-2 (side-calls t) (side-at t) side.Post
 side-same-length-2 t c = search needs
@@ -249,10 +249,10 @@ side-same-length-3 t c = search needs
 
 side-returns-6 : (t : ℕ) → side-lts.Need-returns-6 (side-calls t) (side-at t) side.Post
 side-returns-6 t c =
-    let s = c .before .before .before .before .before .before .before .before .before .before .before .before .before .before .before .before .before .before .before .before .before .before .before .before .before .before .before .before .before .before .before .before in
+    let s = c .before .before .before .before .before .before .before .before .before .before .before .before .before .before .before .before .before .before .before .before .before .before .before .before .before .before .before .before .before .before .before .before .before .before in
     let a = s .args in
-    λ F lent. side-calm F (now (a .kinds)) (now (a .left)) (now (a .right)) (now (a .most)) lent (now (a .g)) (now (a .near)) (a .h) _ _ _ (sum-is t (c .before .before .before .before .before .before .before .before .before .before .before .before .before .before .before .before .before .before)) (facts-are t (c .before .before .before .before .before .before .before .before .before .before .before)) (closer-is t (c .before .before .before .before .before .before)) (now (a .room)) _ (a .h .node .spot) (c .before .before .branch .result) (c .before .before .before .before .before .before .before .before .before .before .before .before .before .before .before .before .before .if2 .left) (s .pre .1 .3) (c .before .before .branch .ensures F lent (sym (c .before .before .before .before .before .before .before .before .before .before .before .before .before .before .before .before .before .before .before .before .before .before .known-so-far .ensures) ∙ ap threeOf (c .before .before .before .before .before .before .before .before .before .before .before .before .before .before .before .enum-told3 .given .1)))
+    λ F lent. side-calm F (now (a .kinds)) (now (a .left)) (now (a .right)) (now (a .most)) lent (now (a .g)) (now (a .near)) (a .h) _ _ _ (sum-is t (c .before .before .before .before .before .before .before .before .before .before .before .before .before .before .before .before .before .before .before .before)) (facts-are t (c .before .before .before .before .before .before .before .before .before .before .before)) (closer-is t (c .before .before .before .before .before .before)) (now (a .room)) _ (a .h .node .spot) (c .before .before .branch .result) (c .before .before .before .before .before .before .before .before .before .before .before .before .before .before .before .before .before .before .before .if2 .left) (s .pre .1 .3) (c .before .before .branch .ensures F lent (sym (c .before .before .before .before .before .before .before .before .before .before .before .before .before .before .before .before .before .before .before .before .before .before .before .before .known-so-far .ensures) ∙ ap threeOf (c .before .before .before .before .before .before .before .before .before .before .before .before .before .before .before .before .before .enum-told3 .given .1)))
 
 pub +branch+side-spec : {M : Type 1} → statement M
 +branch+side-spec = close μ-branch μ-side (λ t. branch-lts.spec (branch-calls t) (branch-at t) branch.Post (branch-sub-decided t) (branch-shared-slice-read-a t) (branch-cast-a t) (branch-shared-slice-read-b t) (branch-cast-b t) (branch-mul-w t) (branch-shared-slice-copy-out-w t) (branch-put-requires t) (branch-half-at-requires t) (branch-side-requires t) (branch-negation-requires t) (branch-half-at-requires-2 t) (branch-side-requires-2 t) (branch-same-length t) (branch-returns t))
-    (λ t. side-lts.spec (side-calls t) (side-at t) side.Post (side-returns t) (side-sub-decided t) (side-known-so-far-requires t) (side-edge-requires t) (side-add-if2 t) (side-cut-requires t) (side-same-length t) (side-returns-2 t) (side-enum-told t) (side-put-requires t) (side-enum-told-2 t) (side-enum-told-3 t) (side-returns-3 t) (side-tighten-requires t) (side-add-relax-in t) (side-relax-in-requires t) (side-branch-requires t) (side-same-length-2 t) (side-returns-4 t) (side-returns-5 t) (side-same-length-3 t) (side-returns-6 t))
+    (λ t. side-lts.spec (side-calls t) (side-at t) side.Post (side-returns t) (side-sub-decided t) (side-known-so-far-requires t) (side-edge-requires t) (side-add-if2 t) (side-cut-requires t) (side-same-length t) (side-returns-2 t) (side-enum-told t) (side-put-requires t) (side-enum-told-2 t) (side-enum-told-3 t) (side-returns-3 t) (side-enter-requires t) (side-add-relax-in t) (side-relax-in-requires t) (side-branch-requires t) (side-same-length-2 t) (side-returns-4 t) (side-returns-5 t) (side-same-length-3 t) (side-returns-6 t))

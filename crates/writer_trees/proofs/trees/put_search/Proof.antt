@@ -14,19 +14,19 @@ use borrow.Author.Needs.{needs}
 use Rattle.writer_trees.proofs.trees.put_search.Statement.{statement}
 use Rattle.writer_trees.proofs.trees.put_search.Tie as tie
 
-tighten-requires : tie.Need-tighten-requires
-tighten-requires c κs = search needs
+enter-requires : tie.Need-enter-requires
+enter-requires c κs = search needs
 
 add-search : tie.Need-add-search
 add-search c = search needs
 
 -- the facts that are searched
-facts-are : (c : tie.After-tighten) → let a = c .before .before .before .args in c .tighten .result ≡ tighten (now (a .g)) (a .e .from) (a .e .to) (a .e .weight)
-facts-are c = let s = c .before .before .before in c .tighten .ensures ∙ ap (tighten (now (s .args .g)) (s .args .e .from) (s .args .e .to)) (toZ-ofZ {w = w64} (fact-fits (s .args .last) _ _ _ (s .pre .2)))
+facts-are : (c : tie.After-enter) → let a = c .before .before .before .before .before .args in c .enter .last .0 ≡ tighten (now (a .g)) (a .e .from) (a .e .to) (a .e .weight)
+facts-are c = let s = c .before .before .before .before .before in c .enter .ensures ∙ ap (tighten (now (s .args .g)) (s .args .e .from) (s .args .e .to)) (toZ-ofZ {w = w64} (fact-fits (s .args .last) _ _ _ (s .pre .2)))
 
 search-requires : tie.Need-search-requires
 search-requires c κs =
-    let s = c .before .before .before .before in
+    let s = c .before .before .before .before .before .before in
     let a = s .args in
     let kept = subst Kept (sym (facts-are (c .before))) (kept-next (a .last) (a .e .from) (a .e .to) (a .e .weight) (s .pre .2) (now (a .g)) (s .pre .1)) in
     ((omega arith, omega (arith, s .pre .0)), (kept .sized, kept-within _ kept (a .last + 1)))
@@ -39,7 +39,7 @@ same-length c = search needs
 
 returns : tie.Need-returns
 returns c =
-    let s = c .before .before .before .before .before .before .before .before .before .before in
+    let s = c .before .before .before .before .before .before .before .before .before .before .before .before in
     let a = s .args in
     let found = c .before .before .before .before .before .search in
     let last : a .last + 1 - 1 ≡ a .last = omega arith in
@@ -48,4 +48,4 @@ returns c =
 
 pub put-search-spec : {M : Type 1} → statement M
 put-search-spec =
-    tie.close (tie.spec tighten-requires add-search search-requires put-cycle-requires same-length returns)
+    tie.close (tie.spec enter-requires add-search search-requires put-cycle-requires same-length returns)
