@@ -10,7 +10,7 @@ use lib.Seq.{drop-cons, getD-set-same, getD-set-other}
 use Rattle.page_formulas.specs.Program.{two}
 use Rattle.page_formulas.specs.Knowledge.{Three, fails, passes, open?, and3, or3, not3, next, later, top3}
 use Rattle.page_formulas.specs.Kinds.{kindStep, runKinds, knownKinds}
-use Rattle.truth.specs.Cells.{codeOf, bit, stackOf, joinedBy, pushedBy}
+use Rattle.truth.specs.Cells.{codeOf, bit, below, stackOf, joinedBy, pushedBy}
 
 -- ---- codes: and is the lesser, or the greater
 
@@ -104,12 +104,14 @@ later-drop (d ∷ ds) (suc n) = later-drop ds n
 
 -- ---- the stack in cells
 
-below : (cells : List ℕ) (v : ℕ) (i h : ℕ) → h ≤ i → stackOf (set cells i v) h ≡ stackOf cells h
-below cells v i zero l = refl
-below cells v i (suc h) l = ap₂ (λ a st. codeOf a ∷ st) (getD-set-other cells i h v 0 (omega arith)) (below cells v i h (omega arith))
+below-same : (cells : List ℕ) (v i h : ℕ) → h < i → below (set cells i v) h ≡ below cells h
+below-same cells v i zero l = refl
+below-same cells v i (suc h) l = ap₂ (λ a st. codeOf a ∷ st) (getD-set-other cells i (suc h) v 0 (omega arith)) (below-same cells v i h (omega arith))
 
-put : (cells : List ℕ) (v : ℕ) (h : ℕ) → h < length cells → stackOf (set cells h v) (suc h) ≡ codeOf v ∷ stackOf cells h
-put cells v h l = ap₂ (λ a st. codeOf a ∷ st) (getD-set-same cells h v 0 l) (below cells v h h (omega arith))
+-- the old top goes into the cells
+put : (cells : List ℕ) (top h : ℕ) → h < length cells → below (set cells h top) h ≡ stackOf cells top h
+put cells top zero l = refl
+put cells top (suc h) l = ap₂ (λ a st. codeOf a ∷ st) (getD-set-same cells (suc h) top 0 l) (below-same cells top (suc h) h (omega arith))
 
 -- ---- one turn: what the rest makes of the new stack is what it made of the old
 
@@ -129,26 +131,26 @@ module _ (kinds truths : List ℕ) where
     unfolding Rest runKinds
     passed st e = rw (add-one i, drop-cons kinds i 0 l, e, add-one n, ← later-drop (map bit truths) n)
 
-    module _ (cells : List ℕ) where
-      pub rest-place : (h : ℕ) (v : ℕ) → h < length cells → getD kinds i 0 ≡ 0 → codeOf v ≡ pushedBy (getD kinds i 0) truths n → Rest (n + 1) (i + 1) (stackOf (set cells h v) (h + 1)) ≡ Rest n i (stackOf cells h)
-      rest-place h v b e p = rw (add-one h, put cells v h b, p, pushed-place (getD kinds i 0) truths n e) (passed (stackOf cells h) e)
+    module _ (cells : List ℕ) (top : ℕ) where
+      pub rest-place : (h v : ℕ) → h < length cells → getD kinds i 0 ≡ 0 → codeOf v ≡ pushedBy (getD kinds i 0) truths n → Rest (n + 1) (i + 1) (stackOf (set cells h top) v (h + 1)) ≡ Rest n i (stackOf cells top h)
+      rest-place h v b e p = rw (add-one h, put cells top h b, p, pushed-place (getD kinds i 0) truths n e) (passed (stackOf cells top h) e)
 
-      pub rest-constant : (h : ℕ) (v : ℕ) → h < length cells → 4 ≤ getD kinds i 0 → codeOf v ≡ pushedBy (getD kinds i 0) truths n → Rest n (i + 1) (stackOf (set cells h v) (h + 1)) ≡ Rest n i (stackOf cells h)
-      rest-constant h v b e p = rw (add-one h, put cells v h b, p) (pick (getD kinds i 0) refl e)
+      pub rest-constant : (h v : ℕ) → h < length cells → 4 ≤ getD kinds i 0 → codeOf v ≡ pushedBy (getD kinds i 0) truths n → Rest n (i + 1) (stackOf (set cells h top) v (h + 1)) ≡ Rest n i (stackOf cells top h)
+      rest-constant h v b e p = rw (add-one h, put cells top h b, p) (pick (getD kinds i 0) refl e)
         where
-          pick : (k : ℕ) → getD kinds i 0 ≡ k → 4 ≤ k → Rest n (i + 1) (pushedBy k truths n ∷ stackOf cells h) ≡ Rest n i (stackOf cells h)
+          pick : (k : ℕ) → getD kinds i 0 ≡ k → 4 ≤ k → Rest n (i + 1) (pushedBy k truths n ∷ stackOf cells top h) ≡ Rest n i (stackOf cells top h)
           pick zero d g = absurd (omega arith)
           pick (suc zero) d g = absurd (omega arith)
           pick (suc (suc zero)) d g = absurd (omega arith)
           pick (suc (suc (suc zero))) d g = absurd (omega arith)
-          pick (suc (suc (suc (suc zero)))) d g = stays 4 (stackOf cells h) d (omega arith)
-          pick (suc (suc (suc (suc (suc k))))) d g = stays (suc (suc (suc (suc (suc k))))) (stackOf cells h) d (omega arith)
+          pick (suc (suc (suc (suc zero)))) d g = stays 4 (stackOf cells top h) d (omega arith)
+          pick (suc (suc (suc (suc (suc k))))) d g = stays (suc (suc (suc (suc (suc k))))) (stackOf cells top h) d (omega arith)
 
-      pub rest-not : (h : ℕ) (v : ℕ) → 1 ≤ h → h ≤ length cells → getD kinds i 0 ≡ 3 → codeOf v ≡ not3 (codeOf (getD cells (h - 1) 0)) → Rest n (i + 1) (stackOf (set cells (h - 1) v) h) ≡ Rest n i (stackOf cells h)
-      rest-not zero v a b e p = absurd (omega arith)
-      rest-not (suc h) v a b e p = let d : suc h - 1 ≡ h = omega arith in rw (d, put cells v h b, rw d at p) (stays 3 (stackOf cells (suc h)) e (omega arith))
+      pub rest-not : (h v : ℕ) → 1 ≤ h → getD kinds i 0 ≡ 3 → codeOf v ≡ not3 (codeOf top) → Rest n (i + 1) (stackOf cells v h) ≡ Rest n i (stackOf cells top h)
+      rest-not zero v a e p = absurd (omega arith)
+      rest-not (suc h) v a e p = rw p (stays 3 (stackOf cells top (suc h)) e (omega arith))
 
-      pub rest-not-empty : (h : ℕ) → h < 1 → getD kinds i 0 ≡ 3 → Rest n (i + 1) (stackOf cells h) ≡ Rest n i (stackOf cells h)
+      pub rest-not-empty : (h : ℕ) → h < 1 → getD kinds i 0 ≡ 3 → Rest n (i + 1) (stackOf cells top h) ≡ Rest n i (stackOf cells top h)
       rest-not-empty zero b e = stays 3 [] e (omega arith)
       rest-not-empty (suc h) b e = absurd (omega arith)
 
@@ -158,22 +160,21 @@ module _ (kinds truths : List ℕ) where
       join-step (suc (suc zero)) st e f g = stays 2 st e (omega arith)
       join-step (suc (suc (suc k))) st e f g = absurd (omega arith)
 
-      pub rest-join : (h : ℕ) (v : ℕ) → 2 ≤ h → h ≤ length cells → ¬ (getD kinds i 0 ≡ 0) → getD kinds i 0 < 3 → codeOf v ≡ joinedBy (getD kinds i 0) (codeOf (getD cells (h - 2) 0)) (codeOf (getD cells (h - 1) 0)) → Rest n (i + 1) (stackOf (set cells (h - 2) v) (h - 1)) ≡ Rest n i (stackOf cells h)
-      rest-join zero v a b f e p = absurd (omega arith)
-      rest-join (suc zero) v a b f e p = absurd (omega arith)
-      rest-join (suc (suc h)) v a b f e p =
-          let c : suc (suc h) - 2 ≡ h = omega arith in
+      pub rest-join : (h v : ℕ) → 2 ≤ h → ¬ (getD kinds i 0 ≡ 0) → getD kinds i 0 < 3 → codeOf v ≡ joinedBy (getD kinds i 0) (codeOf (getD cells (h - 1) 0)) (codeOf top) → Rest n (i + 1) (stackOf cells v (h - 1)) ≡ Rest n i (stackOf cells top h)
+      rest-join zero v a f e p = absurd (omega arith)
+      rest-join (suc zero) v a f e p = absurd (omega arith)
+      rest-join (suc (suc h)) v a f e p =
           let d : suc (suc h) - 1 ≡ suc h = omega arith in
-          rw (c, d, put cells v h (omega arith), rw (c, d) at p) (join-step (getD kinds i 0) (stackOf cells (suc (suc h))) refl f e)
+          rw (d, rw d at p) (join-step (getD kinds i 0) (stackOf cells top (suc (suc h))) refl f e)
 
-      pub rest-join-short : (h : ℕ) → h < 2 → ¬ (getD kinds i 0 ≡ 0) → getD kinds i 0 < 3 → Rest n (i + 1) (stackOf cells h) ≡ Rest n i (stackOf cells h)
+      pub rest-join-short : (h : ℕ) → h < 2 → ¬ (getD kinds i 0 ≡ 0) → getD kinds i 0 < 3 → Rest n (i + 1) (stackOf cells top h) ≡ Rest n i (stackOf cells top h)
       rest-join-short zero b f e = join-step (getD kinds i 0) [] refl f e
-      rest-join-short (suc zero) b f e = join-step (getD kinds i 0) (stackOf cells 1) refl f e
+      rest-join-short (suc zero) b f e = join-step (getD kinds i 0) (stackOf cells top 1) refl f e
       rest-join-short (suc (suc h)) b f e = absurd (omega arith)
 
-pub stack-top : (cells : List ℕ) (h : ℕ) → 0 < h → top3 (stackOf cells h) ≡ codeOf (getD cells (h - 1) 0)
-stack-top cells zero l = absurd (omega arith)
-stack-top cells (suc h) l = let d : suc h - 1 ≡ h = omega arith in rw d
+pub stack-top : (cells : List ℕ) (top h : ℕ) → (h ≡ 0 → top ≡ 2) → top3 (stackOf cells top h) ≡ codeOf top
+stack-top cells top zero e = rw (e refl)
+stack-top cells top (suc h) e = refl
 
 -- with every instruction run the top of the stack is what is known
 pub rest-known : (kinds truths : List ℕ) (n i : ℕ) (st : List Three) → length kinds ≤ i → Rest kinds truths n i st ≡ Rest kinds truths 0 0 [] → (t : Three) → top3 st ≡ t → t ≡ knownKinds kinds (map bit truths)

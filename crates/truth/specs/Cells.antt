@@ -24,10 +24,14 @@ abbrev pub bit : ℕ → Bool
 bit zero = false
 bit (suc n) = true
 
--- the stack that the first h cells hold, the last on top
-abbrev pub stackOf : List ℕ → ℕ → List Three
-stackOf cells zero = []
-stackOf cells (suc h) = codeOf (getD cells h 0) ∷ stackOf cells h
+-- the values in cells h, .., 1, and the stack with the top above them, h values in all
+abbrev pub below : List ℕ → ℕ → List Three
+below cells zero = []
+below cells (suc h) = codeOf (getD cells (suc h) 0) ∷ below cells h
+
+abbrev pub stackOf : List ℕ → ℕ → ℕ → List Three
+stackOf cells top zero = []
+stackOf cells top (suc h) = codeOf top ∷ below cells h
 
 -- what the kinds 1 and 2 make of two values
 abbrev pub joinedBy : ℕ → Three → Three → Three

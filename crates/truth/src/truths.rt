@@ -79,7 +79,9 @@ pub fn known(kinds: &[u8], truths: &[u8]) -> Truth
     requires { ⌜ length (now kinds) ≤ mostInstructions ⌝ }
     ensures { λ r. ⌜ threeOf r ≡ knownKinds (now (kinds .entry)) (map bit (now (truths .entry))) ⌝ }
 {
+    // the top of the stack stands apart, those below it in cells 1, 2, ..; with no value the top is true
     let mut cells = [0u8; INSTRUCTIONS];
+    let mut top: u8 = 2;
     let mut height: usize = 0;
     let mut next: usize = 0;
     let mut i: usize = 0;
@@ -87,32 +89,28 @@ pub fn known(kinds: &[u8], truths: &[u8]) -> Truth
         let k = kinds[i];
         i += 1;
         if k == 0 {
-            cells[height] = pushed(k, truths, next);
+            cells[height] = top;
+            top = pushed(k, truths, next);
             height += 1;
             next += 1;
             continue;
         }
         if 4 <= k {
-            cells[height] = pushed(k, truths, next);
+            cells[height] = top;
+            top = pushed(k, truths, next);
             height += 1;
             continue;
         }
         if k == 3 {
             if 1 <= height {
-                let a = cells[height - 1];
-                cells[height - 1] = opposite(a);
+                top = opposite(top);
             }
             continue;
         }
         if 2 <= height {
-            let a = cells[height - 2];
-            let b = cells[height - 1];
-            cells[height - 2] = joined(k, a, b);
+            top = joined(k, cells[height - 1], top);
             height -= 1;
         }
     }
-    if height == 0 {
-        return Truth::Passes;
-    }
-    told(cells[height - 1])
+    told(top)
 }

@@ -4,24 +4,22 @@ use native.Mathlib.Omega.{arith}
 use Prim.Native.Nat.{_-_, _≤_}
 use mathlib.Core.Path.{_≡_, refl, _∙_}
 use mathlib.Core.List.{[]}
-use lib.ListN.{length, getD}
-use denote.Ref.{now}
+use lib.ListN.{length}
 use Rattle.page_formulas.specs.Costs.{mostInstructions}
 use Rattle.truth.specs.Cells.{stackOf, codeOf}
-use Rattle.page_formulas.specs.Knowledge.{passes}
 use Rattle.truth.proofs.Runs.{Rest, rest-place, rest-constant, rest-not, rest-not-empty, rest-join, rest-join-short, rest-known, stack-top}
 use Rattle.truth.proofs.truths.known.Statement.{statement}
 use Rattle.truth.proofs.truths.known.Tie as tie
 
 abbrev Inv-loop : tie.InvT-loop
-Inv-loop kinds truths cells₀ height₀ next₀ i₀ cells height next i =
-    (i ≤ length kinds) × (height ≤ i) × (next ≤ i) × (length cells ≡ mostInstructions) × (Rest kinds truths next i (stackOf cells height) ≡ Rest kinds truths 0 0 [])
+Inv-loop kinds truths cells₀ top₀ height₀ next₀ i₀ cells top height next i =
+    (i ≤ length kinds) × (height ≤ i) × (next ≤ i) × (length cells ≡ mostInstructions) × (height ≡ 0 → top ≡ 2) × (Rest kinds truths next i (stackOf cells top height) ≡ Rest kinds truths 0 0 [])
 
 abbrev μ-loop : tie.MeasureT-loop
-μ-loop kinds truths cells₀ height₀ next₀ i₀ cells height next i = length kinds - i
+μ-loop kinds truths cells₀ top₀ height₀ next₀ i₀ cells top height next i = length kinds - i
 
 loop-holds : tie.Need-loop-holds Inv-loop μ-loop
-loop-holds c = search needs
+loop-holds c = (search needs, search needs, search needs, search needs, λ e. refl, refl)
 
 shared-slice-read-k : tie.Need-shared-slice-read-k Inv-loop μ-loop
 shared-slice-read-k c = search needs
@@ -29,11 +27,11 @@ shared-slice-read-k c = search needs
 add-i : tie.Need-add-i Inv-loop μ-loop
 add-i c = search needs
 
-pushed-requires : tie.Need-pushed-requires Inv-loop μ-loop
-pushed-requires c κs = search needs
-
 array-write-cells : tie.Need-array-write-cells Inv-loop μ-loop
 array-write-cells c = search needs
+
+pushed-requires : tie.Need-pushed-requires Inv-loop μ-loop
+pushed-requires c κs = search needs
 
 add-height : tie.Need-add-height Inv-loop μ-loop
 add-height c = search needs
@@ -52,14 +50,15 @@ loop-again c =
       search needs,
       search needs,
       search needs,
-      rest-place (args .kinds .now) (args .truths .now) (at .i) (at .next) (c .before .before .before .loop-test .taken) (at .cells) (at .height) (c .pushed .result) (omega arith) (c .before .if1 .taken) (c .pushed .ensures) ∙ at .inv .4,
+      λ e. absurd (omega (arith, e)),
+      rest-place (args .kinds .now) (args .truths .now) (at .i) (at .next) (c .before .before .before .loop-test .taken) (at .cells) (at .top) (at .height) (c .pushed .result) (omega arith) (c .before .if1 .taken) (c .pushed .ensures) ∙ at .inv .5,
     )
-
-pushed-requires-2 : tie.Need-pushed-requires-2 Inv-loop μ-loop
-pushed-requires-2 c κs = search needs
 
 array-write-cells-2 : tie.Need-array-write-cells-2 Inv-loop μ-loop
 array-write-cells-2 c = search needs
+
+pushed-requires-2 : tie.Need-pushed-requires-2 Inv-loop μ-loop
+pushed-requires-2 c κs = search needs
 
 add-height-2 : tie.Need-add-height-2 Inv-loop μ-loop
 add-height-2 c = search needs
@@ -75,17 +74,12 @@ loop-again-2 c =
       search needs,
       search needs,
       search needs,
-      rest-constant (args .kinds .now) (args .truths .now) (at .i) (at .next) (c .before .before .before .before .loop-test .taken) (at .cells) (at .height) (c .pushed2 .result) (omega arith) (c .before .if2 .taken) (c .pushed2 .ensures) ∙ at .inv .4,
+      λ e. absurd (omega (arith, e)),
+      rest-constant (args .kinds .now) (args .truths .now) (at .i) (at .next) (c .before .before .before .before .loop-test .taken) (at .cells) (at .top) (at .height) (c .pushed2 .result) (omega arith) (c .before .if2 .taken) (c .pushed2 .ensures) ∙ at .inv .5,
     )
-
-array-read-a : tie.Need-array-read-a Inv-loop μ-loop
-array-read-a c = search needs
 
 opposite-requires : tie.Need-opposite-requires Inv-loop μ-loop
 opposite-requires c κs = search needs
-
-array-write-cells-3 : tie.Need-array-write-cells-3 Inv-loop μ-loop
-array-write-cells-3 c = search needs
 
 loop-less-3 : tie.Need-loop-less-3 Inv-loop μ-loop
 loop-less-3 c = search needs
@@ -98,7 +92,8 @@ loop-again-3 c =
       search needs,
       search needs,
       search needs,
-      rest-not (args .kinds .now) (args .truths .now) (at .i) (at .next) (c .before .before .before .before .before .before .loop-test .taken) (at .cells) (at .height) (c .opposite .result) (c .before .if4 .taken) (omega arith) (c .before .before .if3 .taken) (c .opposite .ensures) ∙ at .inv .4,
+      λ e. absurd (omega (arith, e, c .before .if4 .taken)),
+      rest-not (args .kinds .now) (args .truths .now) (at .i) (at .next) (c .before .before .before .before .before .before .loop-test .taken) (at .cells) (at .top) (at .height) (c .opposite .result) (c .before .if4 .taken) (c .before .before .if3 .taken) (c .opposite .ensures) ∙ at .inv .5,
     )
 
 loop-less-4 : tie.Need-loop-less-4 Inv-loop μ-loop
@@ -112,23 +107,18 @@ loop-again-4 c =
       search needs,
       search needs,
       search needs,
-      rest-not-empty (args .kinds .now) (args .truths .now) (at .i) (at .next) (c .before .before .before .before .before .loop-test .taken) (at .cells) (at .height) (c .if4 .left) (c .before .if3 .taken) ∙ at .inv .4,
+      at .inv .4,
+      rest-not-empty (args .kinds .now) (args .truths .now) (at .i) (at .next) (c .before .before .before .before .before .loop-test .taken) (at .cells) (at .top) (at .height) (c .if4 .left) (c .before .if3 .taken) ∙ at .inv .5,
     )
 
-array-read-a-2 : tie.Need-array-read-a-2 Inv-loop μ-loop
-array-read-a-2 c = search needs
+sub-joined : tie.Need-sub-joined Inv-loop μ-loop
+sub-joined c = search needs
 
-sub-b : tie.Need-sub-b Inv-loop μ-loop
-sub-b c = search needs
-
-array-read-b : tie.Need-array-read-b Inv-loop μ-loop
-array-read-b c = search needs
+array-read-joined : tie.Need-array-read-joined Inv-loop μ-loop
+array-read-joined c = search needs
 
 joined-requires : tie.Need-joined-requires Inv-loop μ-loop
 joined-requires c κs = search needs
-
-array-write-cells-4 : tie.Need-array-write-cells-4 Inv-loop μ-loop
-array-write-cells-4 c = search needs
 
 sub-height : tie.Need-sub-height Inv-loop μ-loop
 sub-height c = search needs
@@ -144,7 +134,8 @@ loop-again-5 c =
       search needs,
       search needs,
       search needs,
-      rest-join (args .kinds .now) (args .truths .now) (at .i) (at .next) (c .before .before .before .before .before .before .loop-test .taken) (at .cells) (at .height) (c .joined .result) (c .before .if5 .taken) (omega arith) (c .before .before .before .before .if1 .left) (omega arith) (c .joined .ensures) ∙ at .inv .4,
+      λ e. absurd (omega (arith, e, c .before .if5 .taken)),
+      rest-join (args .kinds .now) (args .truths .now) (at .i) (at .next) (c .before .before .before .before .before .before .loop-test .taken) (at .cells) (at .top) (at .height) (c .joined .result) (c .before .if5 .taken) (c .before .before .before .before .if1 .left) (omega arith) (c .joined .ensures) ∙ at .inv .5,
     )
 
 loop-less-6 : tie.Need-loop-less-6 Inv-loop μ-loop
@@ -158,30 +149,19 @@ loop-again-6 c =
       search needs,
       search needs,
       search needs,
-      rest-join-short (args .kinds .now) (args .truths .now) (at .i) (at .next) (c .before .before .before .before .before .loop-test .taken) (at .cells) (at .height) (c .if5 .left) (c .before .before .before .if1 .left) (omega arith) ∙ at .inv .4,
+      at .inv .4,
+      rest-join-short (args .kinds .now) (args .truths .now) (at .i) (at .next) (c .before .before .before .before .before .loop-test .taken) (at .cells) (at .top) (at .height) (c .if5 .left) (c .before .before .before .if1 .left) (omega arith) ∙ at .inv .5,
     )
+
+told-requires : tie.Need-told-requires Inv-loop μ-loop
+told-requires c κs = search needs
 
 returns : tie.Need-returns Inv-loop μ-loop
 returns c =
     let at = c .before .before .loop in
     let args = c .before .before .before .before .before .args in
-    rest-known (args .kinds .now) (args .truths .now) (at .next) (at .i) (stackOf (at .cells) (at .height)) (c .before .loop-test .left) (at .inv .4) passes (rw (c .if6 .taken) refl)
-
-sub-told : tie.Need-sub-told Inv-loop μ-loop
-sub-told c = search needs
-
-array-read-told : tie.Need-array-read-told Inv-loop μ-loop
-array-read-told c = search needs
-
-told-requires : tie.Need-told-requires Inv-loop μ-loop
-told-requires c κs = search needs
-
-returns-2 : tie.Need-returns-2 Inv-loop μ-loop
-returns-2 c =
-    let at = c .before .before .before .loop in
-    let args = c .before .before .before .before .before .before .args in
     c .told .ensures
-    ∙ rest-known (args .kinds .now) (args .truths .now) (at .next) (at .i) (stackOf (at .cells) (at .height)) (c .before .before .loop-test .left) (at .inv .4) (codeOf (getD (at .cells) (at .height - 1) 0)) (stack-top (at .cells) (at .height) (omega (arith, c .before .if6 .left)))
+    ∙ rest-known (args .kinds .now) (args .truths .now) (at .next) (at .i) (stackOf (at .cells) (at .top) (at .height)) (c .before .loop-test .left) (at .inv .5) (codeOf (at .top)) (stack-top (at .cells) (at .top) (at .height) (at .inv .4))
 
 pub known-spec : {M : Type 1} → statement M
 known-spec =
@@ -192,36 +172,29 @@ known-spec =
     loop-holds
     shared-slice-read-k
     add-i
-    pushed-requires
     array-write-cells
+    pushed-requires
     add-height
     add-next
     loop-less
     loop-again
-    pushed-requires-2
     array-write-cells-2
+    pushed-requires-2
     add-height-2
     loop-less-2
     loop-again-2
-    array-read-a
     opposite-requires
-    array-write-cells-3
     loop-less-3
     loop-again-3
     loop-less-4
     loop-again-4
-    array-read-a-2
-    sub-b
-    array-read-b
+    sub-joined
+    array-read-joined
     joined-requires
-    array-write-cells-4
     sub-height
     loop-less-5
     loop-again-5
     loop-less-6
     loop-again-6
-    returns
-    sub-told
-    array-read-told
     told-requires
-    returns-2)
+    returns)
