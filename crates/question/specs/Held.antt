@@ -102,7 +102,7 @@ unfoldable pub questionOf : Question → M.Question
 questionOf q =
     L.questionFrom (widthsOf (q .shape)) (q .shape .changed) (columnsOf q) (conditionOf (q .condition)) (changeOf (q .shape .width) (q .change))
 
--- the tables: 1 to 4, the changed one among them, 8 columns at most; the derived numbers are what they are named for
+-- the tables: no more than there may be, the changed one among them, and no more columns; the derived numbers are what they are named for
 pub record ShapeHeld (h : Shape) : Type 0 where
   pub someTable : 1 ≤ h .tables
   pub fewTables : h .tables ≤ mostTables

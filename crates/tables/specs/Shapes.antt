@@ -19,7 +19,7 @@ use Rattle.tables.specs.declared.widths.WidthsRead.{WidthsRead}
 
 -- ---- widths
 
--- the first n widths: 1 to 4 tables, each with a column, and their sum, at most 8
+-- the first n widths: of tables with a column each, no more than there may be, and their sum
 pub record Counted (n : ℕ) (widths : List ℕ) (total : ℕ) : Type 0 where
   pub sized : length widths ≡ mostTables
   pub few : n ≤ mostTables
