@@ -8,7 +8,7 @@ use lib.Signed.{leZ, ltZ}
 use lib.Dec.{T, T-not, not-T}
 use Rattle.page_numbers.proofs.Bridge.{from-leZ, to-leZ, from-ltZ, +law}
 use Rattle.page_meaning.specs.Condition.{compare, more, constant, meets, run}
-use Rattle.page_meaning.specs.Contents.{Values, _∈_, each, look, inRange, part, fits, columns, Unchanged, Irrelevant, Computable}
+use Rattle.page_meaning.specs.Contents.{version1, Values, _∈_, each, look, inRange, part, fits, columns, Unchanged, Irrelevant, Computable}
 use Rattle.page_meaning.specs.Trouble.{moved, newFits}
 use Rattle.page_meaning.proofs.Words.{C, S, moves}
 use Rattle.page_meaning.specs.Witness.{cut, alone}
@@ -80,7 +80,7 @@ tooLow-computable : Computable tooLow
 tooLow-computable = computable-agrees tooLow (omega arith) .0 (
   λ m. stuck (m .0) (m .1) (search parts),
   (
-    λ m. T-not (S tooLow (aboveV 10) lower (look (m .1))) (search parts) (or-l (not (moves tooLow (aboveV 10) lower (look (m .1)))) (C tooLow (moved tooLow lower (look (m .1)))) (not-T (moves tooLow (aboveV 10) lower (look (m .1))) (stuck (m .1) (m .3)))),
+    λ m. T-not (S tooLow (aboveV 10) lower version1 (look (m .1))) (search parts) (or-l (not (moves tooLow (aboveV 10) lower (look (m .1)))) (C tooLow (moved tooLow lower (look (m .1)))) (not-T (moves tooLow (aboveV 10) lower (look (m .1))) (stuck (m .1) (m .3)))),
     (λ m. stuck (m .0) (m .2) (search parts depth 9), (λ m. stuck (m .0) (m .2) (search parts depth 9), tt)),
   ),
 )
@@ -104,7 +104,7 @@ unfolding inRange meets run moved newFits part
 shortcut-computable = computable-agrees shortcut (omega arith) .0 (
   λ m. T-not (leZ (pos 10) (look (m .0) 1)) (search parts) (search parts),
   (
-    λ m. T-not (S shortcut picked five (look (m .1))) (search parts) (or-r (not (moves shortcut picked five (look (m .1)))) (leZ (pos 10) (look (m .1) 1)) (search parts)),
+    λ m. T-not (S shortcut picked five version1 (look (m .1))) (search parts) (or-r (not (moves shortcut picked five (look (m .1)))) (leZ (pos 10) (look (m .1) 1)) (search parts)),
     (
       λ m. let f : T false = search parts depth 9 in f,
       (

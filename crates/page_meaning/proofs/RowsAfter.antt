@@ -4,19 +4,28 @@ use mathlib.Core.Logic.{_↔_, _⊎_, inl, inr}
 use mathlib.Core.Bool.{Bool, true, false, not, _&&_, cond}
 use mathlib.Core.List.{List, [], _∷_}
 use lib.Dec.{T, T-not}
-use Rattle.page_meaning.specs.Condition.{Condition, meets}
-use Rattle.page_meaning.specs.Contents.{Question, Change, insert, delete, modify, Mode, Values, _∈_, each, fits, newRow, place, left, added, afterBy, Contents, Valid, Full, row, Within, Shows, Listed, Same}
+use Rattle.page_meaning.specs.Condition.{Condition, Row, meets}
+use Rattle.page_meaning.specs.Contents.{Version, version1, version2, Question, Change, insert, delete, modify, Mode, Values, _∈_, each, fits, newRow, place, unmoved, left, added, afterBy, Contents, Valid, Full, row, Within, Shows, Listed, Same}
 use Rattle.page_meaning.specs.WellFormed.{ChangeOk}
-use Rattle.page_meaning.specs.Trouble.{moved}
-use Rattle.page_meaning.proofs.Words.{moves}
+use Rattle.page_meaning.specs.Trouble.{moved, newFits}
+use Rattle.page_meaning.proofs.Words.{moves, leaves}
+use Rattle.page_meaning.proofs.Truth.{and-l}
 use Rattle.page_meaning.proofs.MovedRows.{Wide, with, selected-same, fits-same, row-same}
 use Rattle.page_meaning.proofs.Tables.{in-left, in-right, in-cases, each-from, each-in, only, within-wide}
 use Rattle.page_meaning.proofs.Fates.{Fate, Then}
 
+-- a row that moves leaves its place
+pub moved-leaves : (q : Question) (d : Condition) (ms : List Mode) (v : Version) (r : Row) → T (moves q d ms r) → T (leaves q d ms v r)
+moved-leaves q d ms version1 r m = m
+moved-leaves q d ms version2 r m = and-l (meets d r) (newFits (q .changed) ms r) m
+
+abbrev pub modifyFate : Version → Question → Condition → List Mode → Fate
+modifyFate v q d ms = record { stays = λ r. not (leaves q d ms v r); moves = moves q d ms; after = moved q ms; apart = λ r s m. T-not (leaves q d ms v r) s (moved-leaves q d ms v r m) }
+
 abbrev pub fateOf : Question → Change → Fate
 fateOf q (insert new) = record { stays = λ r. true; moves = λ r. false; after = λ r. r; apart = λ r s m. m }
 fateOf q (delete d) = record { stays = λ r. not (meets d r); moves = λ r. false; after = λ r. r; apart = λ r s m. m }
-fateOf q (modify d ms) = record { stays = λ r. not (moves q d ms r); moves = moves q d ms; after = moved q ms; apart = λ r. T-not (moves q d ms r) }
+fateOf q (modify d ms) = modifyFate (q .version) q d ms
 
 -- ---- what is left of one row
 
@@ -31,26 +40,48 @@ module _ (P : Values → Type 0) where
   stayed : (old new : Values) → Some (old ∷ []) ↔ ((T true × P old) ⊎ (T false × P new))
   stayed old new = (λ t. inl (tt, some-one old t), λ t. elim t [ inl k ↦ (old, inl refl, k .1) | inr k ↦ absurd (k .0) ])
 
+  -- it moves, or it goes
+  moved-on : (old new : Values) → Some (new ∷ []) ↔ ((T false × P old) ⊎ (T true × P new))
+  moved-on old new = (λ t. inr (tt, some-one new t), λ t. elim t [ inl k ↦ absurd (k .0) | inr k ↦ (new, inl refl, k .1) ])
+
+  removed : (old new : Values) → Some [] ↔ ((T false × P old) ⊎ (T false × P new))
+  removed old new = (λ t. absurd (t .1), λ t. elim t [ inl k ↦ absurd (k .0) | inr k ↦ absurd (k .0) ])
+
   deleted : (b : Bool) (old : Values) → Some (cond b [] (old ∷ [])) ↔ ((T (not b) × P old) ⊎ (T false × P old))
-  deleted true old = (λ t. absurd (t .1), λ t. elim t [ inl k ↦ absurd (k .0) | inr k ↦ absurd (k .0) ])
+  deleted true old = removed old old
   deleted false old = stayed old old
 
-  modified : (b g : Bool) (old new : Values) → Some (cond b (cond g (new ∷ []) (old ∷ [])) (old ∷ [])) ↔ ((T (not (b && g)) × P old) ⊎ (T (b && g) × P new))
-  modified true true old new = (λ t. inr (tt, some-one new t), λ t. elim t [ inl k ↦ absurd (k .0) | inr k ↦ (new, inl refl, k .1) ])
-  modified true false old new = stayed old new
-  modified false g old new = stayed old new
+  -- does a row leave its place, if it is chosen and its new values are in range
+  abbrev gone : Version → Bool → Bool → Bool
+  gone version1 b g = b && g
+  gone version2 b g = b
+
+  modified : (v : Version) (b g : Bool) (old new : Values) → Some (cond b (cond g (new ∷ []) (unmoved v old)) (old ∷ [])) ↔ ((T (not (gone v b g)) × P old) ⊎ (T (b && g) × P new))
+  modified version1 true true old new = moved-on old new
+  modified version1 true false old new = stayed old new
+  modified version1 false g old new = stayed old new
+  modified version2 true true old new = moved-on old new
+  modified version2 true false old new = removed old new
+  modified version2 false g old new = stayed old new
 
 -- M of a full row is the test of its row of the changed table
 moves-same : (q : Question) (d : Condition) (ms : List Mode) → ChangeOk q (modify d ms) → (x : Full) → Wide q x → meets d (place q (x .here)) && fits (q .changed) (newRow q ms (x .here)) ≡ moves q d ms (row x)
 moves-same q d ms ok x w = ap₂ _&&_ (selected-same q x w d (ok .0)) (fits-same q x w ms (ok .1))
 
+modified-exactly : (version : Version) (q : Question) (d : Condition) (ms : List Mode) → ChangeOk q (modify d ms) → (x : Full) → Wide q x → (v : Values)
+    → ((s : Values) × (s ∈ cond (meets d (place q (x .here))) (cond (fits (q .changed) (newRow q ms (x .here))) (newRow q ms (x .here) ∷ []) (unmoved version (x .here))) (x .here ∷ [])) × Shows q (row (with x s)) v) ↔ Then q (modifyFate version q d ms) (row x) v
+modified-exactly version1 q d ms ok x w v =
+    rw (← moves-same q d ms ok x w, ← row-same q x w ms (ok .1) (ok .2))
+    (modified (λ s. Shows q (row (with x s)) v) version1 (meets d (place q (x .here))) (fits (q .changed) (newRow q ms (x .here))) (x .here) (newRow q ms (x .here)))
+modified-exactly version2 q d ms ok x w v =
+    rw (← moves-same q d ms ok x w, ← selected-same q x w d (ok .0), ← row-same q x w ms (ok .1) (ok .2))
+    (modified (λ s. Shows q (row (with x s)) v) version2 (meets d (place q (x .here))) (fits (q .changed) (newRow q ms (x .here))) (x .here) (newRow q ms (x .here)))
+
 left-exactly : (q : Question) (ch : Change) → ChangeOk q ch → (x : Full) → Wide q x → (v : Values)
     → ((s : Values) × (s ∈ left q ch (x .here)) × Shows q (row (with x s)) v) ↔ Then q (fateOf q ch) (row x) v
 left-exactly q (insert new) ok x w v = stayed (λ s. Shows q (row (with x s)) v) (x .here) (x .here)
 left-exactly q (delete d) ok x w v = rw (← selected-same q x w d ok) (deleted (λ s. Shows q (row (with x s)) v) (meets d (place q (x .here))) (x .here))
-left-exactly q (modify d ms) ok x w v =
-    rw (← moves-same q d ms ok x w, ← row-same q x w ms (ok .1) (ok .2))
-    (modified (λ s. Shows q (row (with x s)) v) (meets d (place q (x .here))) (fits (q .changed) (newRow q ms (x .here))) (x .here) (newRow q ms (x .here)))
+left-exactly q (modify d ms) ok x w v = modified-exactly (q .version) q d ms ok x w v
 
 -- ---- the list after the change
 

@@ -5,13 +5,15 @@ use mathlib.Core.Bool.{Bool, true, false, cond}
 use mathlib.Core.List.{List, [], _∷_, _++_, map, foldl}
 use lib.ListN.{getD, replicate}
 use Rattle.page_meaning.specs.Condition.{Condition}
-use Rattle.page_meaning.specs.Contents.{Question, Change, insert, delete, modify, Mode, keep, become, shift, Table, first}
+use Rattle.page_meaning.specs.Contents.{Version, version1, version2, Question, Change, insert, delete, modify, Mode, keep, become, shift, Table, first}
 
 -- ---- words (FORMAT 5.2)
 
--- of a row: C; C(F); the change's condition; M; S; its F differs from a row (the second?) as that is, or after the change (after?)
+-- of a row: C; C(F); the change's condition; its range tests; M; S, by the version; its F differs from a row (the second?) as that is, or
+-- after the change (after?)
 pub data Claim : Type 0 where
-  listed relisted chosen moving staying : Claim
+  listed relisted chosen fitting moving : Claim
+  staying : Version → Claim
   differing : Bool → Bool → Claim
 
 -- of row 1 or row 2; as it is, or denied
@@ -32,17 +34,27 @@ abbrev pub deletion : Bool → List Line
 deletion true = single (of1 listed) (of1 chosen ∷ []) ∷ []
 deletion false = double (of1 listed) (of2 listed ∷ of1 chosen ∷ not2 chosen ∷ []) ∷ []
 
-abbrev pub modification : Bool → List Line
-modification true =
+-- what takes a row from where it was: in version 1 only its new values, in version 2 that it was chosen
+abbrev pub leaving : Version → Claim
+leaving version1 = moving
+leaving version2 = chosen
+
+-- a listed row that is removed, which version 1 doesn't know
+abbrev pub retirement : Version → List Line
+retirement version1 = []
+retirement version2 = single (of1 chosen) (of1 listed ∷ not1 fitting ∷ []) ∷ []
+
+abbrev pub modification : Version → Bool → List Line
+modification v true =
     single (of1 moving) (of1 listed ∷ not1 relisted ∷ [])
     ∷ single (of1 moving) (not1 listed ∷ of1 relisted ∷ [])
     ∷ single (of1 moving) (of1 listed ∷ of1 relisted ∷ of1 (differing false false) ∷ [])
-    ∷ []
-modification false =
+    ∷ retirement v
+modification v false =
     single (of1 moving) (not1 listed ∷ of1 relisted ∷ [])
-    ∷ double (of1 listed) (of2 listed ∷ of1 staying ∷ not2 staying ∷ [])
+    ∷ double (of1 listed) (of2 listed ∷ of1 (staying v) ∷ not2 (staying v) ∷ [])
     ∷ double (of1 listed) (of2 listed ∷ of1 moving ∷ of2 moving ∷ of1 relisted ∷ of2 relisted ∷ of1 (differing true true) ∷ [])
-    ∷ double (of1 listed) (of2 listed ∷ of1 moving ∷ not2 moving ∷ of1 relisted ∷ of1 (differing true false) ∷ [])
+    ∷ double (of1 listed) (of2 listed ∷ of1 moving ∷ not2 (leaving v) ∷ of1 relisted ∷ of1 (differing true false) ∷ [])
     ∷ []
 
 -- ---- the modes of a change
@@ -59,11 +71,12 @@ kept (shift j k) = false
 
 -- ---- how the table is read
 
--- rows as W and what is said of them as A, for one change: F, C, the change's condition, M, differ; not, and, or
+-- rows as W and what is said of them as A, for one change: F, C, the change's condition, its range tests, M, differ; not, and, or
 pub record Reading (W A : Type 0) : Type 0 where
   pub F : W → W
   pub C : W → A
   pub D : W → A
+  pub ranged : W → A
   pub M : W → A
   pub differ : W → W → A
   pub deny : A → A
@@ -76,8 +89,10 @@ module _ {W A : Type 0} (R : Reading W A) (w : Bool → W) where
   claims listed i = R .C (w i)
   claims relisted i = R .C (R .F (w i))
   claims chosen i = R .D (w i)
+  claims fitting i = R .ranged (w i)
   claims moving i = R .M (w i)
-  claims staying i = R .either (R .deny (R .M (w i))) (R .C (R .F (w i)))
+  claims (staying version1) i = R .either (R .deny (R .M (w i))) (R .C (R .F (w i)))
+  claims (staying version2) i = R .either (R .deny (R .D (w i))) (R .both (R .ranged (w i)) (R .C (R .F (w i))))
   claims (differing j new) i = R .differ (R .F (w i)) (cond new (R .F (w j)) (w j))
 
   abbrev pub readPart : Part → A
@@ -102,4 +117,4 @@ module _ {A : Type 0} where
   formulasBy f q (insert new) true = map (λ n. f [] (map become n) insertion) new
   formulasBy f q (insert new) false = unlessAlone (q .front) (q .back) (map (λ n. f [] (map become n) insertion) new)
   formulasBy f q (delete d) asked = map (f d []) (deletion asked)
-  formulasBy f q (modify d ms) asked = map (f d ms) (modification asked)
+  formulasBy f q (modify d ms) asked = map (f d ms) (modification (q .version) asked)

@@ -70,9 +70,14 @@ pub data Change : Type 0 where
   delete : Condition → Change
   modify : Condition → List Mode → Change
 
--- A list definition and a change: the tables before the changed one, the changed one, those after it; the visible
+-- FORMAT 3.2: by which rule a question is meant. They differ in what a modify does with a row whose new values are not all in range
+pub data Version : Type 0 where
+  version1 version2 : Version
+
+-- A list definition and a change: the version; the tables before the changed one, the changed one, those after it; the visible
 -- columns in order; the condition C; the change. Column numbers run over all tables, also in the change
 pub record Question : Type 0 where
+  pub version : Version
   pub front : List Table
   pub changed : Table
   pub back : List Table
@@ -174,12 +179,18 @@ newValues (m ∷ ms) (v ∷ vs) r = newValue m r v ∷ newValues ms vs r
 abbrev pub newRow : Question → List Mode → Values → Values
 newRow q ms r = newValues ms r (place q r)
 
+-- FORMAT 1.5: what a modify leaves of a row that meets its condition and has a new value out of range. In version 1 it stays as it was, in
+-- version 2 it is removed
+abbrev pub unmoved : Version → Values → List Values
+unmoved version1 r = r ∷ []
+unmoved version2 r = []
+
 -- FORMAT 1.5: what is left of one row. A delete leaves nothing of a row that meets its condition; a modify leaves the new row of one that
--- meets its condition if all new values are in range, else the row as it was
+-- meets its condition if all new values are in range
 abbrev pub left : Question → Change → Values → List Values
 left q (insert new) r = r ∷ []
 left q (delete d) r = cond (meets d (place q r)) [] (r ∷ [])
-left q (modify d ms) r = cond (meets d (place q r)) (cond (fits (q .changed) (newRow q ms r)) (newRow q ms r ∷ []) (r ∷ [])) (r ∷ [])
+left q (modify d ms) r = cond (meets d (place q r)) (cond (fits (q .changed) (newRow q ms r)) (newRow q ms r ∷ []) (unmoved (q .version) r)) (r ∷ [])
 
 -- FORMAT 1.5: the rows that an insert adds
 abbrev pub added : Change → List Values

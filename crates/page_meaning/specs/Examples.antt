@@ -3,7 +3,7 @@ use Prim.Native.Nat.{ℕ}
 use mathlib.Core.List.{List, [], _∷_}
 use lib.IntN.{pos, negsuc}
 use Rattle.page_meaning.specs.Condition.{Condition, compare, equal, atLeast, more, both, either, constant, column}
-use Rattle.page_meaning.specs.Contents.{Values, Table, Mode, keep, become, shift, Change, insert, delete, modify, Question, Contents}
+use Rattle.page_meaning.specs.Contents.{Values, Table, Mode, keep, become, shift, Change, insert, delete, modify, version1, Question, Contents}
 
 -- FORMAT 9.1: KEY has K and V, CLIENT has N and Q
 abbrev pub keys : Table
@@ -14,7 +14,7 @@ clients = record { lo = pos 0; hi = pos 9 } ∷ record { lo = pos 0; hi = pos 9 
 
 -- FORMAT 9.1: the list, and a change of KEY
 abbrev pub question : Change → Question
-question ch = record { front = []; changed = keys; back = clients ∷ []; visible = 0 ∷ 2 ∷ []; condition = compare equal 0 (column 3 (pos 0)) ∷ compare atLeast 1 (constant (pos 10)) ∷ both ∷ []; change = ch }
+question ch = record { version = version1; front = []; changed = keys; back = clients ∷ []; visible = 0 ∷ 2 ∷ []; condition = compare equal 0 (column 3 (pos 0)) ∷ compare atLeast 1 (constant (pos 10)) ∷ both ∷ []; change = ch }
 
 -- a row, in the order K, V, N, Q
 abbrev pub vals : ℕ → ℕ → ℕ → ℕ → Values
@@ -55,4 +55,4 @@ abbrev pub five : List Mode
 five = become (pos 5) ∷ keep ∷ []
 
 abbrev pub shortcut : Question
-shortcut = record { front = []; changed = keys; back = []; visible = 0 ∷ []; condition = aboveV 10; change = modify picked five }
+shortcut = record { version = version1; front = []; changed = keys; back = []; visible = 0 ∷ []; condition = aboveV 10; change = modify picked five }

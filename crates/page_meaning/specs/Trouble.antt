@@ -44,7 +44,7 @@ differOver mode (i ∷ is) a b = (not (kept (mode i)) && holds unequal (a i) (b 
 module _ (q : Question) where
   -- the words of the table (FORMAT 5.2), of rows
   abbrev pub tests : Condition → List Mode → Reading Row Bool
-  tests d ms = record { F = moved q ms; C = meets (q .condition); D = meets d; M = λ r. meets d r && newFits (q .changed) ms r; differ = differOver (modeAt q ms) (q .visible); deny = not; both = _&&_; either = _||_ }
+  tests d ms = record { F = moved q ms; C = meets (q .condition); D = meets d; ranged = newFits (q .changed) ms; M = λ r. meets d r && newFits (q .changed) ms r; differ = differOver (modeAt q ms) (q .visible); deny = not; both = _&&_; either = _||_ }
 
   -- a line of the table; one about one row has no second
   abbrev pub formula : Condition → List Mode → Line → Formula
