@@ -10,10 +10,10 @@ use lib.IntN.{negℤ}
 use Rattle.page_numbers.specs.Outcome.{Outcome, good, refused}
 use Rattle.page_meaning.specs.Limits.{Limits, limits}
 use Rattle.page_meaning.specs.Condition.{Condition, compare, both, either, negate, Side, constant, column}
-use Rattle.page_meaning.specs.Contents.{Range, Change, insert, delete, modify, Question, columns}
+use Rattle.page_meaning.specs.Contents.{Range, Change, insert, delete, modify, Version, Question, columns}
 use Rattle.page_meaning.specs.WellFormed.{SideUses, Uses, Reads, WellFormed}
-use Rattle.page_questions.specs.Layout.{Column, rangesOf, total, firstOf, widthOf, tableOf, visibleFrom, questionFrom}
-use Rattle.page_questions.specs.Reader.{At, many, byte, int, upTo, farthest, widthAt, columnAt, conditionAt, changeAt, ending, fromChange, fromCondition, fromVisible, fromColumns, fromWidths, fromChanged, fromKind, fromTables, fromVersion, marked, readUnder, readOf}
+use Rattle.page_questions.specs.Layout.{Column, rangesOf, total, firstOf, widthOf, tableOf, visibleFrom, versionBy, questionFrom}
+use Rattle.page_questions.specs.Reader.{At, many, byte, int, upTo, farthest, widthAt, columnAt, conditionAt, changeAt, ending, fromChange, fromCondition, fromVisible, fromColumns, fromWidths, fromChanged, fromKind, fromTables, fromVersion, marked, versionIn, versioned, readUnder, readOf}
 use Rattle.page_questions.specs.Guarantees.{Every, RangeOk, ChangeAccepted, Ascending, AcceptedUnder, Accepted}
 use Rattle.page_questions.proofs.Invariants.{Holds, Finds, holds-so, Between, Inside, then-holds, cond-holds, byte-holds, int-holds, many-holds}
 use Rattle.page_questions.proofs.Conditions.{every-snoc, Sound, condition-holds}
@@ -84,12 +84,12 @@ module _ (l : Limits) where
       abbrev OwnFrom : ℕ → ℕ → Type 0
       OwnFrom low i = Between low (low + length (tableOf ws t gs)) i
 
-      well-formed : (c : Condition) (ch : Change) → ChangeFits s (firstOf ws t) (tableOf ws t gs) ch → WellFormed (questionFrom ws t cs c ch)
+      well-formed : (v : Version) (c : Condition) (ch : Change) → ChangeFits s (firstOf ws t) (tableOf ws t gs) ch → WellFormed (questionFrom v ws t cs c ch)
       unfolding questionFrom
-      well-formed c (insert rows) fit = fit .1
-      well-formed c (delete d) fit = subst (λ low. Uses (OwnFrom low) d) (sym (first-from ws t cs inside whole c (delete d))) (fit .1)
-      well-formed c (modify d ms) fit =
-          let low = sym (first-from ws t cs inside whole c (modify d ms)) in
+      well-formed v c (insert rows) fit = fit .1
+      well-formed v c (delete d) fit = subst (λ low. Uses (OwnFrom low) d) (sym (first-from ws t cs inside whole v c (delete d))) (fit .1)
+      well-formed v c (modify d ms) fit =
+          let low = sym (first-from ws t cs inside whole v c (modify d ms)) in
           (subst (λ n. Uses (OwnFrom n) d) low (fit .2), subst (λ n. Reads (OwnFrom n) ms) low (fit .3), fit .4)
 
       change-accepted : (ch : Change) → ChangeFits s (firstOf ws t) (tableOf ws t gs) ch → ChangeAccepted ch
@@ -97,14 +97,14 @@ module _ (l : Limits) where
       change-accepted (delete d) fit = fit .0
       change-accepted (modify d ms) fit = (fit .0, fit .1)
 
-      as-accepted : (c : Condition) (ch : Change) → Sound s 0 (total ws) c → ChangeFits s (firstOf ws t) (tableOf ws t gs) ch → AcceptedUnder l (questionFrom ws t cs c ch)
+      as-accepted : (v : Version) (c : Condition) (ch : Change) → Sound s 0 (total ws) c → ChangeFits s (firstOf ws t) (tableOf ws t gs) ch → AcceptedUnder l (questionFrom v ws t cs c ch)
       unfolding questionFrom
-      as-accepted c ch sound fit =
+      as-accepted v c ch sound fit =
           let split = total-split ws t inside in
           let long : length gs ≡ total ws = length-map cs (λ c. c .range) ∙ whole in
-          let count = columns-count ws t cs inside whole c ch in
+          let count = columns-count ws t cs inside whole v c ch in
           record {
-            wellFormed = well-formed c ch fit;
+            wellFormed = well-formed v c ch fit;
             fewTables = omega (
               arith,
               tables-length (take t ws) gs,
@@ -119,10 +119,10 @@ module _ (l : Limits) where
             changed = omega (arith, table-length ws t cs inside whole, every-at ws t inside (h .widths .0));
             eachBack = each-some (drop (suc t) ws) (drop (firstOf ws t + widthOf ws t) gs) (every-drop (λ w. 1 ≤ w) (suc t) ws (h .widths .0)) (simp length-drop (omega arith));
             fewColumns = omega (arith, count, h .widths .1);
-            ranges = subst (Every RangeOk) (sym (columns-from ws t cs inside whole c ch)) (every-ranges cs ranges);
+            ranges = subst (Every RangeOk) (sym (columns-from ws t cs inside whole v c ch)) (every-ranges cs ranges);
             someVisible = some;
             visible = subst (λ n. Ascending 0 n (visibleFrom 0 cs)) (omega (arith, count)) (ascending 0 cs);
-            exist = uses-so (Between 0 (total ws)) (λ i. i < length (columns (questionFrom ws t cs c ch))) (λ i b. omega (arith, count, b .1)) c (sound .uses);
+            exist = uses-so (Between 0 (total ws)) (λ i. i < length (columns (questionFrom v ws t cs c ch))) (λ i b. omega (arith, count, b .1)) c (sound .uses);
             condition = sound .ok;
             change = change-accepted ch fit;
           }
@@ -133,7 +133,7 @@ module _ (l : Limits) where
           then-holds (Sound s 0 (total ws)) (AcceptedUnder l) (conditionAt s 0 (total ws) p) _ (condition-holds s 0 (total ws) p) λ c p sound.
           then-holds (ChangeFits s (firstOf ws t) (tableOf ws t gs)) (AcceptedUnder l) (changeAt s kind (firstOf ws t) (tableOf ws t gs) p) _
           (change-holds s (firstOf ws t) (tableOf ws t gs) kind p) λ ch p fit.
-          cond-holds (AcceptedUnder l) (ltb p (length s)) _ _ (λ e. tt) (λ e. as-accepted c ch sound fit)
+          cond-holds (AcceptedUnder l) (ltb p (length s)) _ _ (λ e. tt) (λ e. as-accepted (versionBy (getD s 3 0)) c ch sound fit)
 
     from-visible : (cs : List Column) (p : ℕ) → length cs ≡ total ws → Every (λ c. RangeOk (c .range)) cs → Holds (AcceptedUnder l) (fromVisible s kind t ws cs p)
     unfolding fromVisible
@@ -174,7 +174,7 @@ module _ (l : Limits) where
       cond-holds (AcceptedUnder l) (leb 3 (length s)) _ _
       (λ e. cond-holds (AcceptedUnder l) (marked s) _ _
       (λ e. cond-holds (AcceptedUnder l) (leb 5 (length s)) _ _
-      (λ e. cond-holds (AcceptedUnder l) (eqb (getD s 3 0 + 256 * getD s 4 0) 1) _ _ (λ e. from-tables s 5) (λ e. tt))
+      (λ e. cond-holds (AcceptedUnder l) (versioned (versionIn s)) _ _ (λ e. from-tables s 5) (λ e. tt))
       (λ e. tt))
       (λ e. tt))
       (λ e. tt)

@@ -7,7 +7,7 @@ use native.Mathlib.Omega.{arith}
 use lib.ListN.{length, take, drop, length-drop, length-map}
 use lib.Seq.{take-add, take-all, drop-drop, length-take-le}
 use Rattle.page_meaning.specs.Condition.{Condition}
-use Rattle.page_meaning.specs.Contents.{Range, Change, columns, columnsOf, first}
+use Rattle.page_meaning.specs.Contents.{Range, Change, Version, columns, columnsOf, first}
 use Rattle.page_questions.specs.Layout.{Column, rangesOf, total, firstOf, widthOf, tablesOf, tableOf, visibleFrom, questionFrom}
 use Rattle.page_questions.specs.Guarantees.{Every, Ascending}
 
@@ -71,18 +71,18 @@ module _ (ws : List ℕ) (t : ℕ) (cs : List Column) (inside : t < length ws) (
   pub table-length : length (tableOf ws t (rangesOf cs)) ≡ widthOf ws t
   table-length = length-take-le (widthOf ws t) (drop (firstOf ws t) (rangesOf cs)) (simp length-drop (omega (arith, splits)))
 
-  module _ (c : Condition) (ch : Change) where
-    pub columns-from : columns (questionFrom ws t cs c ch) ≡ rangesOf cs
+  module _ (v : Version) (c : Condition) (ch : Change) where
+    pub columns-from : columns (questionFrom v ws t cs c ch) ≡ rangesOf cs
     unfolding questionFrom
     columns-from =
         let gs = rangesOf cs in
         ap₂ (λ l r. l ++ (tableOf ws t gs ++ r)) (side-by-side (take t ws) gs) (side-by-side (drop (suc t) ws) (drop (firstOf ws t + widthOf ws t) gs))
         ∙ three-parts (firstOf ws t) (widthOf ws t) (total (drop (suc t) ws)) gs splits
 
-    pub columns-count : length (columns (questionFrom ws t cs c ch)) ≡ total ws
+    pub columns-count : length (columns (questionFrom v ws t cs c ch)) ≡ total ws
     columns-count = ap length columns-from ∙ length-map cs (λ c. c .range) ∙ whole
 
-    pub first-from : first (questionFrom ws t cs c ch) ≡ firstOf ws t
+    pub first-from : first (questionFrom v ws t cs c ch) ≡ firstOf ws t
     unfolding questionFrom
     first-from = ap length (side-by-side (take t ws) (rangesOf cs)) ∙ length-take-le (firstOf ws t) (rangesOf cs) (omega (arith, splits))
 

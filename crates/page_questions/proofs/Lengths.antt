@@ -13,9 +13,9 @@ use Rattle.page_numbers.specs.Outcome.{Outcome, good, refused}
 use Rattle.page_numbers.specs.Bytes.{le32, int32}
 use Rattle.page_meaning.specs.Limits.{mostTables, mostColumns, mostTokens, mostComparisons, mostRows, limits}
 use Rattle.page_meaning.specs.Contents.{Range, Mode, Question}
-use Rattle.page_questions.specs.Layout.{Column, rangesOf, total, firstOf, widthOf, tableOf, visibleFrom, questionFrom}
+use Rattle.page_questions.specs.Layout.{Column, rangesOf, total, firstOf, widthOf, tableOf, visibleFrom, versionBy, questionFrom}
 use Rattle.page_questions.specs.Lengths.{longestCondition, longest, NoneLonger, OneAsLong, FirstBytesTell}
-use Rattle.page_questions.specs.Reader.{At, many, byte, int, upTo, none, largest, constantAt, widthAt, columnAt, comparisonAt, tokenAt, conditionAt, valueAt, rowAt, insertAt, deleteAt, noColumnAt, modeAt, modifyAt, changeAt, ending, fromChange, fromCondition, fromVisible, fromColumns, fromWidths, fromChanged, fromKind, fromTables, fromVersion, marked, readUnder, readOf}
+use Rattle.page_questions.specs.Reader.{At, many, byte, int, upTo, none, largest, constantAt, widthAt, columnAt, comparisonAt, tokenAt, conditionAt, valueAt, rowAt, insertAt, deleteAt, noColumnAt, modeAt, modifyAt, changeAt, ending, fromChange, fromCondition, fromVisible, fromColumns, fromWidths, fromChanged, fromKind, fromTables, fromVersion, marked, versionIn, versioned, readUnder, readOf}
 use Rattle.page_questions.specs.Guarantees.{Every}
 use Rattle.page_questions.proofs.Conditions.{every-snoc}
 use Rattle.page_questions.proofs.Invariants.{Holds, cond-holds, Between}
@@ -116,7 +116,8 @@ module _ (s t : List ℕ) (same : Same s t) where
         twin-then (λ a. a .next ≤ p + longestCondition) _ (conditionAt s 0 (total ws) p) (conditionAt t 0 (total ws) p) _ _ (condition-twin s t same 0 (total ws) p (omega (arith, fits-beside cs))) λ c h.
         twin-then (λ a. a .next ≤ longest) _ (changeAt s kind (firstOf ws changed) (tableOf ws changed (rangesOf cs)) (c .next)) (changeAt t kind (firstOf ws changed) (tableOf ws changed (rangesOf cs)) (c .next)) _ _
         (change-twin kind (firstOf ws changed) (tableOf ws changed (rangesOf cs)) (c .next) (omega (arith, fits-beside cs)) (omega (arith, fits-beside cs))) λ ch g.
-        ending-twin (questionFrom ws changed cs (c .value) (ch .value)) (ch .next) g
+        subst (λ b. Twin Short (ending s (questionFrom (versionBy (getD s 3 0)) ws changed cs (c .value) (ch .value)) (ch .next)) (ending t (questionFrom (versionBy b) ws changed cs (c .value) (ch .value)) (ch .next))) (same .entry 3 (omega arith))
+        (ending-twin (questionFrom (versionBy (getD s 3 0)) ws changed cs (c .value) (ch .value)) (ch .next) g)
 
     visible-on : (cs : List Column) (p : ℕ) → p ≤ 8 + length ws + 9 * mostColumns → Twin Short (fromVisible s kind changed ws cs p) (fromVisible t kind changed ws cs p)
     unfolding fromVisible
@@ -169,9 +170,9 @@ module _ (s t : List ℕ) (same : Same s t) where
   version-twin : Twin Short (fromVersion limits s) (fromVersion limits t)
   unfolding fromVersion
   version-twin =
-      subst (λ b. Twin Short (fromVersion limits s) (cond b (cond (eqb (getD t 3 0 + 256 * getD t 4 0) 1) (fromTables limits t 5) (refused 3 3)) (refused 1 3))) (same .whole 5 (omega arith))
-      (subst (λ v. Twin Short (fromVersion limits s) (cond (leb 5 (length s)) (cond (eqb v 1) (fromTables limits t 5) (refused 3 3)) (refused 1 3))) (ap₂ (λ x y. x + 256 * y) (same .entry 3 (omega arith)) (same .entry 4 (omega arith)))
-      (twin-cond Short (leb 5 (length s)) _ _ _ _ (λ e. twin-cond Short (eqb (getD s 3 0 + 256 * getD s 4 0) 1) _ _ _ _ (λ d. tables-on) (λ d. (refl, tt))) (λ e. (refl, tt))))
+      subst (λ b. Twin Short (fromVersion limits s) (cond b (cond (versioned (versionIn t)) (fromTables limits t 5) (refused 3 3)) (refused 1 3))) (same .whole 5 (omega arith))
+      (subst (λ v. Twin Short (fromVersion limits s) (cond (leb 5 (length s)) (cond (versioned v) (fromTables limits t 5) (refused 3 3)) (refused 1 3))) (ap₂ (λ x y. x + 256 * y) (same .entry 3 (omega arith)) (same .entry 4 (omega arith)))
+      (twin-cond Short (leb 5 (length s)) _ _ _ _ (λ e. twin-cond Short (versioned (versionIn s)) _ _ _ _ (λ d. tables-on) (λ d. (refl, tt))) (λ e. (refl, tt))))
 
   read-twin : Twin Short (readOf s) (readOf t)
   unfolding readUnder

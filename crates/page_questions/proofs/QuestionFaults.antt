@@ -12,7 +12,7 @@ use Rattle.page_numbers.specs.Bytes.{int32}
 use Rattle.page_meaning.specs.Limits.{mostTables, mostRows, limits, mostColumns}
 use Rattle.page_meaning.specs.Condition.{Condition}
 use Rattle.page_meaning.specs.Contents.{Range, Mode, keep, become, shift, insert, delete, modify, Question}
-use Rattle.page_questions.specs.Layout.{Column, rangesOf, total, firstOf, tableOf, visibleFrom, questionFrom}
+use Rattle.page_questions.specs.Layout.{Column, rangesOf, total, firstOf, tableOf, visibleFrom, versionBy, questionFrom}
 use Rattle.page_questions.specs.Reader as R
 use Rattle.page_questions.specs.Reader.{At, found, andThen, int, upTo, none, readUnder, readOf}
 use Rattle.page_questions.specs.Fields.{Field, constant, column, rowCount, mode, noColumn, zeroConstant, mark, version, tableCount, changeKind, changedTable, someVisible, end, sizes, Laid, laid, followed, runs, widthFields, columnFields, conditionFields, valueFields, insertFields, modeFields, modifyFields, deleteFields, changeFields, questionFields, fieldsOf, questionIn}
@@ -120,7 +120,7 @@ module _ (s : List ℕ) where
     abbrev fromChange : List Column → Condition → ℕ → Laid Question
     fromChange cs c p =
         followed p (changeFields s kind (firstOf ws changed) (tableOf ws changed (rangesOf cs)) p) λ ch p.
-        laid (end ∷ []) (questionFrom ws changed cs c ch)
+        laid (end ∷ []) (questionFrom (versionBy (getD s 3 0)) ws changed cs c ch)
 
     abbrev fromCondition : List Column → ℕ → Laid Question
     fromCondition cs p = followed p (conditionFields s 0 (total ws) p) λ c p. fromChange cs c p
@@ -188,7 +188,7 @@ module _ (s : List ℕ) where
     where
       begins : Outcome Question → Outcome Question
       begins o =
-          cond (leb 3 (length s)) (cond (R.marked s) (cond (leb 5 (length s)) (cond (eqb (getD s 3 0 + 256 * getD s 4 0) 1) o (refused 3 3)) (refused 1 3)) (refused 2 0)) (refused 1 0)
+          cond (leb 3 (length s)) (cond (R.marked s) (cond (leb 5 (length s)) (cond (R.versioned (R.versionIn s)) o (refused 3 3)) (refused 1 3)) (refused 2 0)) (refused 1 0)
 
 -- the reader gives the first fault of the fields, or else the question that they make
 pub reads-fields : (s : List ℕ) → readOf s ≡ judge s 0 (fieldsOf s) (questionIn s)

@@ -12,7 +12,7 @@ use Rattle.page_meaning.specs.Limits.{Limits}
 use Rattle.page_meaning.specs.Contents.{Question}
 use Rattle.page_questions.specs.Guarantees.{NoLower}
 use Rattle.page_questions.specs.Layout.{total}
-use Rattle.page_questions.specs.Reader.{At, found, andThen, many, byte, upTo, widthAt, fromWidths, fromChanged, fromKind, fromTables, fromVersion, marked, readUnder}
+use Rattle.page_questions.specs.Reader.{At, found, andThen, many, byte, upTo, widthAt, fromWidths, fromChanged, fromKind, fromTables, fromVersion, marked, versionIn, versioned, readUnder}
 
 -- ---- what is found by the first reading is found by the second
 
@@ -75,4 +75,4 @@ module _ (l m : Limits) (more : NoLower l m) (s : List ℕ) where
   unfolding readUnder fromVersion
   read-kept =
       kept-cond (leb 3 (length s)) _ _ (refused 1 0) (kept-cond (marked s) _ _ (refused 2 0)
-      (kept-cond (leb 5 (length s)) _ _ (refused 1 3) (kept-cond (eqb (getD s 3 0 + 256 * getD s 4 0) 1) _ _ (refused 3 3) (tables-kept 5))))
+      (kept-cond (leb 5 (length s)) _ _ (refused 1 3) (kept-cond (versioned (versionIn s)) _ _ (refused 3 3) (tables-kept 5))))

@@ -2,16 +2,19 @@
 -- fault it gives the question that the fields make.
 use mathlib.Core.Path.{_≡_, refl, sym, ap, subst, _∙_}
 use mathlib.Core.Logic.{_↔_, inl, inr}
-use mathlib.Core.Bool.{Bool, true, false, cond, true≢false}
+use mathlib.Core.Bool.{Bool, true, false, _&&_, cond, true≢false}
 use mathlib.Core.List.{List, [], _∷_, _++_}
-use Prim.Native.Nat.{ℕ, zero, suc, _+_, _≤_, _<_}
+use Prim.Native.Nat.{ℕ, zero, suc, _+_, _*_, _≤_, _<_}
 use native.Mathlib.Omega.{arith}
-use borrow.Author.Tests.{leb-true, leb-false, le-leb, lt-leb}
-use lib.ListN.{length}
+use borrow.Author.Tests.{leb-true, ltb-true, leb-false, le-leb, lt-leb}
+use lib.Dec.{leb, ltb}
+use lib.ListN.{length, getD}
 use Rattle.page_numbers.specs.Outcome.{good, refused}
 use Rattle.page_meaning.specs.Contents.{Question}
-use Rattle.page_questions.specs.Reader.{readOf}
-use Rattle.page_questions.specs.Fields.{Field, mark, version, tableCount, changeKind, changedTable, columnCount, lo, visible, hi, someVisible, tokenCount, token, op, constant, seventh, operands, column, rightColumn, finish, rowCount, inserted, mode, noColumn, zeroConstant, end, size, sizes, fieldsOf, questionIn}
+use Rattle.page_questions.specs.Layout.{versionBy, questionFrom}
+use Rattle.page_questions.specs.Reader.{upTo, versionIn, readOf}
+use Rattle.page_questions.specs.Fields.{Field, mark, version, tableCount, changeKind, changedTable, columnCount, lo, visible, hi, someVisible, tokenCount, token, op, constant, seventh, operands, column, rightColumn, finish, rowCount, inserted, mode, noColumn, zeroConstant, end, size, sizes, followed, questionFields, fieldsOf, questionIn}
+use Rattle.page_questions.specs.Guarantees.{versionNumber}
 use Rattle.page_questions.specs.Faults.{asSaid, numberOf, AllSaid, Fault, Reached, FirstFault}
 use Rattle.page_questions.proofs.StepFaults.{whole, judge}
 use Rattle.page_questions.proofs.QuestionFaults.{reads-fields}
@@ -184,6 +187,24 @@ taken s q = (forth, back)
 
     back : AllSaid s 0 (fieldsOf s) × (questionIn s ≡ q) → readOf s ≡ good q
     back h = reads-fields s ∙ said-judged s (fieldsOf s) (questionIn s) 0 (omega arith) (h .0) ∙ ap good (h .1)
+
+-- FORMAT 3.2: a question is of the version that its bytes name
+pub version-told : (s : List ℕ) (q : Question) → readOf s ≡ good q → versionIn s ≡ versionNumber (q .version)
+unfolding questionFields questionFrom followed asSaid
+version-told s q e =
+    let h = taken s q .0 e in
+    let two = and-eq (leb 1 (versionIn s)) (ltb (versionIn s) (upTo 2)) (h .0 .2 .1) in
+    subst (λ q. versionIn s ≡ versionNumber (q .version)) (h .1) (told (getD s 3 0) (getD s 4 0) (leb-true 1 (versionIn s) (two .0)) (ltb-true (versionIn s) (upTo 2) (two .1)))
+  where
+    and-eq : (a b : Bool) → a && b ≡ true → (a ≡ true) × (b ≡ true)
+    and-eq true b e = (refl, e)
+    and-eq false b e = absurd (true≢false (sym e))
+
+    told : (a b : ℕ) → 1 ≤ a + 256 * b → a + 256 * b < 3 → a + 256 * b ≡ versionNumber (versionBy a)
+    told zero b l h = absurd (omega arith)
+    told (suc zero) b l h = omega arith
+    told (suc (suc zero)) b l h = omega arith
+    told (suc (suc (suc a))) b l h = absurd (omega arith)
 
 -- FORMAT 4.3, 1: a field that goes past the end
 pub refused-short : (s : List ℕ) (p : ℕ) → (readOf s ≡ refused 1 p) ↔ ((f : Field) × Reached s f p × (length s < p + size f))

@@ -32,7 +32,7 @@ module _ (s : List ℕ) where
   unfoldable pub asSaid : Field → ℕ → Bool
   -- FORMAT 3.2: mark and version
   asSaid mark p = eqb (getD s p 0) 86 && eqb (getD s (p + 1) 0) 85 && eqb (getD s (p + 2) 0) 81
-  asSaid version p = eqb (getD s p 0 + 256 * getD s (p + 1) 0) 1
+  asSaid version p = within 1 (upTo 2) (getD s p 0 + 256 * getD s (p + 1) 0)
   -- FORMAT 3.2: table count, kind, changed table
   asSaid tableCount p = within 1 (upTo mostTables) (getD s p 0)
   asSaid changeKind p = within 1 (upTo 3) (getD s p 0)

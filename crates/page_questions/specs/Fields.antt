@@ -10,7 +10,7 @@ use Rattle.page_numbers.specs.Bytes.{int32}
 use Rattle.page_meaning.specs.Limits.{mostColumns}
 use Rattle.page_meaning.specs.Condition.{Token, compare, both, either, negate, Condition}
 use Rattle.page_meaning.specs.Contents.{Range, Mode, keep, become, shift, Values, Change, insert, delete, modify, Question}
-use Rattle.page_questions.specs.Layout.{Column, rangesOf, total, firstOf, tableOf, visibleFrom, questionFrom}
+use Rattle.page_questions.specs.Layout.{Column, rangesOf, total, firstOf, tableOf, visibleFrom, versionBy, questionFrom}
 use Rattle.page_questions.specs.Reader.{opOf, sideOf, height, comparisons}
 
 -- The fields of FORMAT 3, each with what its test depends on. Four are tests with no byte of their own, at the offset that FORMAT 4 gives:
@@ -189,7 +189,7 @@ module _ (s : List ℕ) where
       followed p (laid (someVisible (visibleFrom 0 cs) ∷ []) cs) λ cs p.
       followed p (conditionFields 0 (total ws) p) λ c p.
       followed p (changeFields (byteAt 6) (firstOf ws changed) (tableOf ws changed (rangesOf cs)) p) λ ch p.
-      laid (end ∷ []) (questionFrom ws changed cs c ch)
+      laid (end ∷ []) (questionFrom (versionBy (byteAt 3)) ws changed cs c ch)
 
 -- the fields of a byte string
 abbrev pub fieldsOf : List ℕ → List Field

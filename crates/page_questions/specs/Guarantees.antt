@@ -8,9 +8,14 @@ use lib.IntN.{ℤ, negℤ}
 use lib.Signed.{_≤ℤ_}
 use Rattle.page_meaning.specs.Limits.{Limits, limits, mostTokens, mostComparisons, mostRows}
 use Rattle.page_meaning.specs.Condition.{Condition, Token, compare, both, either, negate, Side, constant, column}
-use Rattle.page_meaning.specs.Contents.{Range, Mode, keep, become, shift, Change, insert, delete, modify, Question, columns}
+use Rattle.page_meaning.specs.Contents.{Range, Mode, keep, become, shift, Change, insert, delete, modify, Version, version1, version2, Question, columns}
 use Rattle.page_meaning.specs.WellFormed.{WellFormed, Uses}
 use Rattle.page_questions.specs.Reader.{farthest, largest, comparisons}
+
+-- FORMAT 3.2: the number of a version
+abbrev pub versionNumber : Version → ℕ
+versionNumber version1 = 1
+versionNumber version2 = 2
 
 -- P holds of every element
 abbrev pub Every : {A : Type 0} → (A → Type 0) → List A → Type 0

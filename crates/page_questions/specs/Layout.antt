@@ -1,10 +1,11 @@
 -- The columns that were read, laid out as tables: what a question consists of, from its parts.
 use Prim.Native.Nat.{ℕ, suc, _+_}
-use mathlib.Core.Bool.{Bool, true, false}
+use mathlib.Core.Bool.{Bool, true, false, cond}
 use mathlib.Core.List.{List, [], _∷_, map}
+use lib.Dec.{eqb}
 use lib.ListN.{getD, take, drop}
 use Rattle.page_meaning.specs.Condition.{Condition}
-use Rattle.page_meaning.specs.Contents.{Range, Table, Change, Question}
+use Rattle.page_meaning.specs.Contents.{Range, Table, Change, Version, version1, version2, Question}
 
 -- FORMAT 3.2: a column's range, and whether it is visible
 pub record Column : Type 0 where
@@ -44,10 +45,15 @@ visibleFrom i (c ∷ cs) = pick (c .shown) i (visibleFrom (suc i) cs)
     pick true i is = i ∷ is
     pick false i is = is
 
--- a question: the widths of its tables, the changed table's number, its columns, its condition C and its change
-unfoldable pub questionFrom : List ℕ → ℕ → List Column → Condition → Change → Question
-questionFrom ws t cs c ch =
+-- FORMAT 3.2: the version, by the first of its two bytes; the other is 0
+abbrev pub versionBy : ℕ → Version
+versionBy b = cond (eqb b 2) version2 version1
+
+-- a question: its version, the widths of its tables, the changed table's number, its columns, its condition C and its change
+unfoldable pub questionFrom : Version → List ℕ → ℕ → List Column → Condition → Change → Question
+questionFrom v ws t cs c ch =
     record {
+      version = v;
       front = tablesOf (take t ws) (rangesOf cs);
       changed = tableOf ws t (rangesOf cs);
       back = tablesOf (drop (suc t) ws) (drop (firstOf ws t + widthOf ws t) (rangesOf cs));

@@ -12,7 +12,7 @@ use Rattle.page_numbers.specs.Bytes.{int32}
 use Rattle.page_meaning.specs.Limits.{Limits, limits, mostTokens, mostComparisons, mostRows}
 use Rattle.page_meaning.specs.Condition.{Op, less, atMost, equal, atLeast, more, unequal, Side, constant, column, Token, compare, both, either, negate, Condition}
 use Rattle.page_meaning.specs.Contents.{Range, Mode, keep, become, shift, Values, Change, insert, delete, modify, Question}
-use Rattle.page_questions.specs.Layout.{Column, rangesOf, total, firstOf, tableOf, visibleFrom, questionFrom}
+use Rattle.page_questions.specs.Layout.{Column, rangesOf, total, firstOf, tableOf, visibleFrom, versionBy, questionFrom}
 
 -- ---- answers
 
@@ -230,7 +230,7 @@ module _ (s : List ℕ) (kind changed : ℕ) (ws : List ℕ) where
   unfoldable pub fromChange : List Column → Condition → ℕ → Read
   fromChange cs c p =
       andThen (changeAt s kind (firstOf ws changed) (tableOf ws changed (rangesOf cs)) p) λ ch p.
-      ending s (questionFrom ws changed cs c ch) p
+      ending s (questionFrom (versionBy (getD s 3 0)) ws changed cs c ch) p
 
   unfoldable pub fromCondition : List Column → ℕ → Read
   fromCondition cs p = andThen (conditionAt s 0 (total ws) p) λ c p. fromChange cs c p
@@ -250,6 +250,13 @@ module _ (s : List ℕ) (kind changed : ℕ) (ws : List ℕ) where
 abbrev pub marked : List ℕ → Bool
 marked s = eqb (getD s 0 0) 86 && eqb (getD s 1 0) 85 && eqb (getD s 2 0) 81
 
+-- FORMAT 3.2: the version, one field of two bytes; and is there such a version
+abbrev pub versionIn : List ℕ → ℕ
+versionIn s = getD s 3 0 + 256 * getD s 4 0
+
+abbrev pub versioned : ℕ → Bool
+versioned v = leb 1 v && ltb v (upTo 2)
+
 module _ (l : Limits) (s : List ℕ) where
   -- FORMAT 3.2: the column counts
   unfoldable pub fromWidths : ℕ → ℕ → ℕ → ℕ → Read
@@ -267,9 +274,9 @@ module _ (l : Limits) (s : List ℕ) where
   unfoldable pub fromTables : ℕ → Read
   fromTables p = andThen (byte s 4 1 (upTo (l .tables)) p) λ tables p. fromKind tables p
 
-  -- FORMAT 3.2: the version, one field of two bytes
+  -- FORMAT 3.2: the version
   unfoldable pub fromVersion : Read
-  fromVersion = cond (leb 5 (length s)) (cond (eqb (getD s 3 0 + 256 * getD s 4 0) 1) (fromTables 5) (refused 3 3)) (refused 1 3)
+  fromVersion = cond (leb 5 (length s)) (cond (versioned (versionIn s)) (fromTables 5) (refused 3 3)) (refused 1 3)
 
   -- a question under these limits
   unfoldable pub readUnder : Read

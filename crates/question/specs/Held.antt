@@ -26,6 +26,8 @@ use Rattle.question.specs.declared.types.Verb.{Verb}
 use Rattle.question.specs.declared.types.Verb.the-variants.{Insert, Delete, Modify}
 use Rattle.question.specs.declared.types.Change.{Change}
 use Rattle.question.specs.declared.types.Shape.{Shape}
+use Rattle.question.specs.declared.types.Version.{Version}
+use Rattle.question.specs.declared.types.Version.the-variants.{One, Two}
 use Rattle.question.specs.declared.types.Question.{Question}
 use Rattle.question.specs.declared.types.Answer.{Answer}
 use Rattle.question.specs.declared.types.Answer.the-variants.{Good, Refused}
@@ -98,9 +100,13 @@ changeOf width ch = changeBy (ch .verb) width ch
 
 -- ---- the question
 
+abbrev pub versionOf : Version → M.Version
+versionOf One = M.version1
+versionOf Two = M.version2
+
 unfoldable pub questionOf : Question → M.Question
 questionOf q =
-    L.questionFrom (widthsOf (q .shape)) (q .shape .changed) (columnsOf q) (conditionOf (q .condition)) (changeOf (q .shape .width) (q .change))
+    L.questionFrom (versionOf (q .version)) (widthsOf (q .shape)) (q .shape .changed) (columnsOf q) (conditionOf (q .condition)) (changeOf (q .shape .width) (q .change))
 
 -- the tables: no more than there may be, the changed one among them, and no more columns; the derived numbers are what they are named for
 pub record ShapeHeld (h : Shape) : Type 0 where

@@ -84,9 +84,16 @@ pub struct Shape {
     pub total: usize,
 }
 
+// By which rule a question is meant.
+pub enum Version {
+    One,
+    Two,
+}
+
 // The first `total` columns count. Column numbers run over all tables; rows and settings speak of the changed table's column
 // `first + j` at j.
 pub struct Question {
+    pub version: Version,
     pub shape: Shape,
     pub columns: [Column; COLUMNS],
     pub condition: Condition,
