@@ -58,6 +58,7 @@ module _ (q : Question) (k : Usable q) (ρ : Values) (z : ρ 0 ≡ pos 0) (d : C
     F = λ σ r o. after-sees (Exists q) ρ z σ r o q ms (u .reads);
     C = λ σ r o. pushes-condition (Exists q) ρ z σ r o (q .condition) (k .uses) (k .shaped);
     D = D-is;
+    ranged = λ σ r o. record { runs = λ st. boundedAll-is (Exists q) ρ z σ r o (q .changed) ms (u .reads) true st };
     M = λ σ r o. let ranges = boundedAll σ (q .changed) ms in
         record { runs = λ st. run-append ρ (conditionProgram σ d) ranges st ∙ ap (run ρ ranges) (D-is σ r o .runs st) ∙ boundedAll-is (Exists q) ρ z σ r o (q .changed) ms (u .reads) (meets d r) st };
     differ = λ σ τ r s o p. record { runs = λ st. differsOver-is (Exists q) ρ z σ τ r s o p (modeAt q ms) (q .visible) (k .visible) false st };

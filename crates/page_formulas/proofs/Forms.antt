@@ -9,7 +9,7 @@ use Rattle.page_meaning.specs.Condition.{Op, less, atMost, equal, atLeast, more
 use Rattle.page_meaning.specs.Contents.{Table, Mode, keep, become, shift}
 use Rattle.page_meaning.specs.Claims.{kept}
 use Rattle.page_questions.specs.Guarantees.{leavesOne, ConditionOk}
-use Rattle.page_formulas.specs.Program.{Program, Instr, Term, orI, falseI}
+use Rattle.page_formulas.specs.Program.{Program, Instr, Term, orI, trueI, falseI}
 use Rattle.page_formulas.specs.Kinds.{kindOf, kindsOf}
 use Rattle.page_formulas.specs.Compilation.{Sight, comparison, constantTerm, plus, sideTerm, compile}
 use Rattle.page_formulas.specs.Parts.{joined, denied, conditionProgram}
@@ -41,6 +41,10 @@ pub pushes-not : {p : Program} → Pushes p → Pushes (denied p)
 unfolding Rises kindsOf
 pushes-not {p} x = record { on = λ h. lifts-then h (suc h) (suc h) p _ (x .on h) (omega arith, omega arith) }
 
+pub pushes-true : Pushes (trueI ∷ [])
+unfolding Rises kindsOf
+pushes-true = record { on = λ h. (omega arith, omega arith) }
+
 pub pushes-more : {p r : Program} → Pushes p → Keeps r → Pushes (p ++ r)
 pushes-more {p} {r} x y = record { on = λ h. lifts-then h (suc h) (suc h) p r (x .on h) (y .on h) }
 
@@ -71,7 +75,7 @@ compile-lifts σ (negate ∷ c) (suc a) h k e t = (omega arith, compile-lifts σ
 
 pub condition-pushes : (σ : Sight) (c : Condition) → ConditionOk c → Pushes (conditionProgram σ c)
 unfolding Rises kindsOf
-condition-pushes σ [] o = record { on = λ h. (omega arith, omega arith) }
+condition-pushes σ [] o = pushes-true
 condition-pushes σ (t ∷ ts) o = record { on = λ h. compile-lifts σ (t ∷ ts) 0 h h (omega arith) (o .shaped) }
 
 -- ---- range tests and comparisons of rows, each joined to what stands before it

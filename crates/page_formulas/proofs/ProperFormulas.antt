@@ -19,7 +19,7 @@ use Rattle.page_meaning.specs.Claims.{Part, Line, single, double, modeAt, readP
 use Rattle.page_meaning.specs.WellFormed.{Uses, ChangeOk}
 use Rattle.page_meaning.proofs.Truth.{and-l, and-r}
 use Rattle.page_questions.specs.Guarantees.{Every, RangeOk, ConstantOk, ConditionOk, ModeOk, ChangeAccepted, Ascending, Accepted}
-use Rattle.page_formulas.specs.Program.{Program, places, andI, orI, falseI}
+use Rattle.page_formulas.specs.Program.{Program, places, andI, orI, trueI, falseI}
 use Rattle.page_formulas.specs.Compilation.{Sight}
 use Rattle.page_formulas.specs.Parts.{conditionProgram}
 use Rattle.page_formulas.specs.Vertices.{Ranges}
@@ -29,7 +29,7 @@ use Rattle.page_formulas.specs.ProperFormulas.{large, Nonempty, SmallRan
 use Rattle.page_formulas.proofs.Usability.{Exists, Contexts, Doable, Usable, usable, contexts-doable}
 use Rattle.page_formulas.proofs.Readings.{Match, match-parts, every-formula}
 use Rattle.page_formulas.proofs.Sizes.{Sized, size-append, size-most, size-join, size-joined, size-not, SmallSight, range-size, size-condition, size-boundedAll, size-differsOver}
-use Rattle.page_formulas.proofs.Forms.{Pushes, pushes-joined, pushes-not, pushes-more, condition-pushes, keeps-bounded, pushes-differs}
+use Rattle.page_formulas.proofs.Forms.{Pushes, pushes-joined, pushes-not, pushes-more, pushes-true, condition-pushes, keeps-bounded, pushes-differs}
 use Rattle.page_formulas.proofs.RowVertices.{first-every, both-every, hidden-length, first-in-one, first-in-both, second-in-both, after-small}
 
 -- a part: its size, and that it pushes one value
@@ -77,6 +77,11 @@ module _ (q : Question) (a : Accepted q) where
     condition-size : (B : ℕ) → B ≤ large → (σ : Sight) → SmallSight rs (Exists q) B σ → (c : Condition) → Uses (Exists q) c → ConditionOk c → Measured rs (conditionProgram σ c) conditionCost
     condition-size B h σ x c u ok = record { sized = size-condition rs (Exists q) B h σ x c u ok; pushes = condition-pushes σ c ok }
 
+    tests-size : (σ : Sight) → SmallSight rs (Exists q) 0 σ → Sized rs (boundedAll σ (q .changed) ms) (2 * mostColumns) (4 * mostColumns)
+    tests-size σ x =
+        let r = size-boundedAll rs (Exists q) 0 (omega arith) σ x (q .changed) ms changed-ranges (o .modes) (o .doable .reads) in
+        size-most rs (2 * mostColumns) (4 * mostColumns) r (omega (arith, changed-few)) (omega (arith, changed-few))
+
     words-fit : Match (Small 0) (Small large) (Measured rs) (programs q d ms) costs
     unfolding places
     words-fit = record {
@@ -84,10 +89,11 @@ module _ (q : Question) (a : Accepted q) where
       F = λ σ t x. after-small q rs σ x ms (o .modes) (o .doable .reads);
       C = λ σ t x. condition-size large (omega arith) σ x (q .condition) (fine .uses) (a .condition);
       D = λ σ t x. condition-size 0 (omega arith) σ x d (o .doable .uses) (o .condition);
+      ranged = λ σ t x.
+          record { sized = size-most rs (2 * mostColumns) (4 * mostColumns + 1) (size-append rs (trueI ∷ []) (boundedAll σ (q .changed) ms) (size-join rs trueI refl) (tests-size σ x)) (omega arith) (omega arith); pushes = pushes-more pushes-true (keeps-bounded σ (q .changed) ms) };
       M = λ σ t x.
           let c = condition-size 0 (omega arith) σ x d (o .doable .uses) (o .condition) in
-          let r = size-boundedAll rs (Exists q) 0 (omega arith) σ x (q .changed) ms changed-ranges (o .modes) (o .doable .reads) in
-          record { sized = size-append rs (conditionProgram σ d) (boundedAll σ (q .changed) ms) (c .sized) (size-most rs (2 * mostColumns) (4 * mostColumns) r (omega (arith, changed-few)) (omega (arith, changed-few))); pushes = pushes-more (c .pushes) (keeps-bounded σ (q .changed) ms) };
+          record { sized = size-append rs (conditionProgram σ d) (boundedAll σ (q .changed) ms) (c .sized) (tests-size σ x); pushes = pushes-more (c .pushes) (keeps-bounded σ (q .changed) ms) };
       differ = λ σ τ t u x y.
           let r = size-differsOver rs (Exists q) σ τ x y (modeAt q ms) (q .visible) (fine .visible) in
           record { sized = size-most rs (2 * mostColumns) (5 * mostColumns + 1) (size-append rs (falseI ∷ []) (differsOver (modeAt q ms) σ τ (q .visible)) (size-join rs falseI refl) r) (omega (arith, visible-few)) (omega (arith, visible-few)); pushes = pushes-differs (modeAt q ms) σ τ (q .visible) };

@@ -5,8 +5,8 @@ use mathlib.Core.Bool.{Bool, true, false}
 use mathlib.Core.List.{List, [], _∷_, map, foldl}
 use native.Mathlib.Omega.{arith}
 use Rattle.page_meaning.specs.Condition.{Condition}
-use Rattle.page_meaning.specs.Contents.{Question, Change, insert, delete, modify, Mode, become, Values, Table}
-use Rattle.page_meaning.specs.Claims.{Claim, listed, relisted, chosen, moving, staying, differing, Part, of1, of2, not1, not2, Line, insertion, deletion, modification, Reading, claims, readPart, readParts, unlessAlone, formulasBy}
+use Rattle.page_meaning.specs.Contents.{Version, version1, version2, Question, Change, insert, delete, modify, Mode, become, Values, Table}
+use Rattle.page_meaning.specs.Claims.{Claim, listed, relisted, chosen, fitting, moving, staying, differing, Part, of1, of2, not1, not2, Line, insertion, deletion, modification, Reading, claims, readPart, readParts, unlessAlone, formulasBy}
 use Rattle.page_questions.specs.Guarantees.{Every}
 use Rattle.page_formulas.specs.Costs.{Fits}
 use Rattle.page_formulas.proofs.Usability.{Contexts}
@@ -18,6 +18,7 @@ module _ {W X A B : Type 0} (Old New : W → X → Type 0) (R : A → B → Type
     pub F : (w : W) (v : X) → Old w v → New (x .F w) (y .F v)
     pub C : (w : W) (v : X) → New w v → R (x .C w) (y .C v)
     pub D : (w : W) (v : X) → Old w v → R (x .D w) (y .D v)
+    pub ranged : (w : W) (v : X) → Old w v → R (x .ranged w) (y .ranged v)
     pub M : (w : W) (v : X) → Old w v → R (x .M w) (y .M v)
     pub differ : (w u : W) (v t : X) → New w v → New u t → R (x .differ w u) (y .differ v t)
     pub deny : {a : A} {b : B} → R a b → R (x .deny a) (y .deny b)
@@ -29,8 +30,10 @@ module _ {W X A B : Type 0} (Old New : W → X → Type 0) (R : A → B → Type
     match-claim listed i = m .C _ _ (m .same _ _ (h i))
     match-claim relisted i = m .C _ _ (m .F _ _ (h i))
     match-claim chosen i = m .D _ _ (h i)
+    match-claim fitting i = m .ranged _ _ (h i)
     match-claim moving i = m .M _ _ (h i)
-    match-claim staying i = m .either (m .deny (m .M _ _ (h i))) (m .C _ _ (m .F _ _ (h i)))
+    match-claim (staying version1) i = m .either (m .deny (m .M _ _ (h i))) (m .C _ _ (m .F _ _ (h i)))
+    match-claim (staying version2) i = m .either (m .deny (m .D _ _ (h i))) (m .both (m .ranged _ _ (h i)) (m .C _ _ (m .F _ _ (h i))))
     match-claim (differing j true) i = m .differ _ _ _ _ (m .F _ _ (h i)) (m .F _ _ (h j))
     match-claim (differing j false) i = m .differ _ _ _ _ (m .F _ _ (h i)) (m .same _ _ (h j))
 
@@ -63,9 +66,11 @@ pub deletion-fits : (asked : Bool) → Every Fits (deletion asked)
 deletion-fits true = (record { instructions = omega arith; places = omega arith }, tt)
 deletion-fits false = (record { instructions = omega arith; places = omega arith }, tt)
 
-pub modification-fits : (asked : Bool) → Every Fits (modification asked)
-modification-fits true = (record { instructions = omega arith; places = omega arith }, (record { instructions = omega arith; places = omega arith }, (record { instructions = omega arith; places = omega arith }, tt)))
-modification-fits false = (record { instructions = omega arith; places = omega arith }, (record { instructions = omega arith; places = omega arith }, (record { instructions = omega arith; places = omega arith }, (record { instructions = omega arith; places = omega arith }, tt))))
+pub modification-fits : (v : Version) (asked : Bool) → Every Fits (modification v asked)
+modification-fits version1 true = (record { instructions = omega arith; places = omega arith }, (record { instructions = omega arith; places = omega arith }, (record { instructions = omega arith; places = omega arith }, tt)))
+modification-fits version2 true = (record { instructions = omega arith; places = omega arith }, (record { instructions = omega arith; places = omega arith }, (record { instructions = omega arith; places = omega arith }, (record { instructions = omega arith; places = omega arith }, tt))))
+modification-fits version1 false = (record { instructions = omega arith; places = omega arith }, (record { instructions = omega arith; places = omega arith }, (record { instructions = omega arith; places = omega arith }, (record { instructions = omega arith; places = omega arith }, tt))))
+modification-fits version2 false = (record { instructions = omega arith; places = omega arith }, (record { instructions = omega arith; places = omega arith }, (record { instructions = omega arith; places = omega arith }, (record { instructions = omega arith; places = omega arith }, tt))))
 
 -- ---- every formula of a change
 
@@ -88,7 +93,7 @@ module _ {A B : Type 0} (R : A → B → Type 0) (f : Condition → List Mode �
   match-formulas q (insert new) p true = match-rows new p
   match-formulas q (insert new) p false = match-unless (q .front) (q .back) _ _ (match-rows new p)
   match-formulas q (delete d) p asked = match-lines d [] p (deletion asked) (deletion-fits asked)
-  match-formulas q (modify d ms) p asked = match-lines d ms p (modification asked) (modification-fits asked)
+  match-formulas q (modify d ms) p asked = match-lines d ms p (modification (q .version) asked) (modification-fits (q .version) asked)
 
 -- the same of one reading: the other is the lines themselves
 pub every-formula : {A : Type 0} (R : A → Type 0) (f : Condition → List Mode → Line → A) (P : Condition → List Mode → Type 0)

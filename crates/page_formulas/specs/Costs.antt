@@ -22,7 +22,10 @@ columnCost = record { instructions = 5; places = 2 }
 abbrev pub conditionCost : Cost
 conditionCost = record { instructions = mostTokens + (comparisonCost .instructions - 1) * mostComparisons; places = comparisonCost .places * mostComparisons }
 
--- of M, and of differ, which begins with false
+-- of the range tests, which begin with true; of M; of differ, which begins with false
+abbrev pub rangedCost : Cost
+rangedCost = record { instructions = rangeCost .instructions * mostColumns + 1; places = rangeCost .places * mostColumns }
+
 abbrev pub movingCost : Cost
 movingCost = record { instructions = conditionCost .instructions + rangeCost .instructions * mostColumns; places = conditionCost .places + rangeCost .places * mostColumns }
 
@@ -38,7 +41,7 @@ joinedCost a b = record { instructions = a .instructions + (b .instructions + 1)
 
 -- a reading of the table like any other: a row takes no room
 abbrev pub costs : Reading (Unit {0}) Cost
-costs = record { F = λ w. w; C = λ w. conditionCost; D = λ w. conditionCost; M = λ w. movingCost; differ = λ w v. differingCost; deny = deniedCost; both = joinedCost; either = joinedCost }
+costs = record { F = λ w. w; C = λ w. conditionCost; D = λ w. conditionCost; ranged = λ w. rangedCost; M = λ w. movingCost; differ = λ w v. differingCost; deny = deniedCost; both = joinedCost; either = joinedCost }
 
 abbrev pub claimCost : Claim → Cost
 claimCost c = claims costs (λ i. tt) c false

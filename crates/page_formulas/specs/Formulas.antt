@@ -10,7 +10,7 @@ use Rattle.page_meaning.specs.Condition.{Condition, atMost, atLeast, unequal}
 use Rattle.page_meaning.specs.Contents.{Question, Change, Mode, keep, become, shift, Range, Table, columns, look, first}
 use Rattle.page_meaning.specs.Contents as M
 use Rattle.page_meaning.specs.Claims.{Line, single, double, modeAt, kept, Reading, readParts, formulasBy}
-use Rattle.page_formulas.specs.Program.{Program, Term, Values, andI, orI, falseI}
+use Rattle.page_formulas.specs.Program.{Program, Term, Values, andI, orI, trueI, falseI}
 use Rattle.page_formulas.specs.Compilation.{Sight, comparison, constantTerm, plus}
 use Rattle.page_formulas.specs.Parts.{joined, denied, conditionProgram}
 use Rattle.page_formulas.specs.Vertices.{Ranges}
@@ -97,9 +97,9 @@ differsOver mode σ τ (i ∷ is) = differsNew (mode i) (σ i) (τ i) ++ differs
 -- ---- the lists
 
 module _ (q : Question) where
-  -- the words of the table (FORMAT 5.2), as programs; differ begins with false
+  -- the words of the table (FORMAT 5.2), as programs; the range tests alone begin with true, differ with false
   abbrev pub programs : Condition → List Mode → Reading Sight Program
-  programs d ms = record { F = after q ms; C = λ σ. conditionProgram σ (q .condition); D = λ σ. conditionProgram σ d; M = λ σ. conditionProgram σ d ++ boundedAll σ (q .changed) ms; differ = λ σ τ. falseI ∷ differsOver (modeAt q ms) σ τ (q .visible); deny = denied; both = joined andI; either = joined orI }
+  programs d ms = record { F = after q ms; C = λ σ. conditionProgram σ (q .condition); D = λ σ. conditionProgram σ d; ranged = λ σ. trueI ∷ boundedAll σ (q .changed) ms; M = λ σ. conditionProgram σ d ++ boundedAll σ (q .changed) ms; differ = λ σ τ. falseI ∷ differsOver (modeAt q ms) σ τ (q .visible); deny = denied; both = joined andI; either = joined orI }
 
   -- a line of the table
   abbrev pub formula : Condition → List Mode → Line → Formula
