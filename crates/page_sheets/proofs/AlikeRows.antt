@@ -5,13 +5,16 @@ use mathlib.Core.Bool.{Bool, true, false, cond, true≢false}
 use mathlib.Core.List.{List, [], _∷_}
 use lib.Dec.{T, eqb}
 use lib.ListN.{length, getD}
-use Rattle.page_meaning.specs.Contents.{Values, Table, Change, insert, delete, modify, Question}
-use Rattle.page_meaning.specs.Claims.{unlessAlone}
+use Rattle.page_meaning.specs.Condition.{Condition}
+use Rattle.page_meaning.specs.Contents.{Change, insert, delete, modify, Mode, Question}
+use Rattle.page_meaning.specs.Claims.{Line, single, double, formulasBy}
 use Rattle.page_questions.specs.Guarantees.{Every}
-use Rattle.page_formulas.specs.Formulas.{Formula, tabulate, secondSight, rowOf1, rowOf2, oneRow, twoRows, irrelevance, computability, formulas}
+use Rattle.page_formulas.specs.Formulas.{Formula, tabulate, secondSight, rowOf1, rowOf2, oneRow, twoRows, formula, irrelevance, computability, formulas}
 use Rattle.page_formulas.specs.Program.{Program}
 use Rattle.page_formulas.specs.Program as P
 use Rattle.page_formulas.specs.Vertices.{present}
+use Rattle.page_formulas.proofs.Usability.{Contexts}
+use Rattle.page_formulas.proofs.Readings.{every-formula}
 use Rattle.page_formulas.proofs.RowVertices.{first-in-one, first-in-both, second-in-both}
 use Rattle.page_sheets.specs.Rows.{width, secondRow, Rowed}
 use Rattle.page_sheets.proofs.Findings.{all-at}
@@ -24,31 +27,25 @@ module _ (q : Question) where
   two : (p : Program) → Rowed q (twoRows q p)
   two p = record { firsts = λ c h. first-in-both q c h .is; seconds = λ e c h. second-in-both q c h .is }
 
-  each : (new : List Values) → Every (Rowed q) (irrelevance q (insert new))
-  each [] = tt
-  each (n ∷ new) = (one _, each new)
+  line-rowed : (d : Condition) (ms : List Mode) (l : Line) → Rowed q (formula q d ms l)
+  line-rowed d ms (single p ps) = one _
+  line-rowed d ms (double p ps) = two _
 
-  unless : (ts us : List Table) (Fs : List Formula) → Every (Rowed q) Fs → Every (Rowed q) (unlessAlone ts us Fs)
-  unless [] [] Fs h = tt
-  unless [] (u ∷ us) Fs h = h
-  unless (t ∷ ts) us Fs h = h
-
-  asked-one : (ch : Change) → Every (Rowed q) (irrelevance q ch)
-  asked-one (insert new) = each new
-  asked-one (delete d) = (one _, tt)
-  asked-one (modify d ms) = (one _, (one _, (one _, tt)))
-
-  asked-two : (ch : Change) → Every (Rowed q) (computability q ch)
-  asked-two (insert new) = unless (q .front) (q .back) (irrelevance q (insert new)) (each new)
-  asked-two (delete d) = (two _, tt)
-  asked-two (modify d ms) = (one _, (two _, (two _, (two _, tt))))
+  -- a line under any context
+  anywhere : (ch : Change) → Contexts (λ d ms. Unit {0}) ch
+  anywhere (insert new) = λ n i. tt
+  anywhere (delete d) = tt
+  anywhere (modify d ms) = tt
 
   pub all-rowed : (asked : ℕ) → Every (Rowed q) (formulas q asked)
   all-rowed asked = go (eqb asked 1)
     where
+      all : (b : Bool) → Every (Rowed q) (formulasBy (formula q) q (q .change) b)
+      all = every-formula (Rowed q) (formula q) (λ d ms. Unit {0}) (λ d ms u l f. line-rowed d ms l) q (q .change) (anywhere (q .change))
+
       go : (b : Bool) → Every (Rowed q) (cond b (irrelevance q (q .change)) (computability q (q .change)))
-      go true = asked-one (q .change)
-      go false = asked-two (q .change)
+      go true = all true
+      go false = all false
 
   pub rows-there : (asked i : ℕ) (F : Formula) → i < length (formulas q asked) → Rowed q (getD (formulas q asked) i F)
   rows-there asked i F h = all-at (Rowed q) (formulas q asked) (all-rowed asked) i F h

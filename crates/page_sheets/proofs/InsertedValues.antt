@@ -2,7 +2,7 @@
 use Prim.Native.Nat.{ℕ, zero, suc, _+_}
 use mathlib.Core.Path.{_≡_, refl, ap, _∙_}
 use mathlib.Core.Logic.{inl, inr}
-use mathlib.Core.Bool.{Bool}
+use mathlib.Core.Bool.{Bool, true, false}
 use mathlib.Core.Option.{Option, none, some}
 use mathlib.Core.List.{List, [], _∷_, _++_, map}
 use native.Mathlib.Omega.{arith}
@@ -11,8 +11,8 @@ use lib.Dec.{T}
 use lib.IntN.{ℤ}
 use Rattle.page_meaning.specs.Condition.{Condition, Row}
 use Rattle.page_meaning.specs.Contents.{Values, look, _∈_, Table, fits, Mode, keep, become, Change, insert, delete, modify, Question, columns, first, newValue}
-use Rattle.page_meaning.specs.Claims.{unlessAlone}
-use Rattle.page_meaning.specs.Trouble.{Formula, one, two, moved, irrelevance, computability}
+use Rattle.page_meaning.specs.Claims.{Line, single, double, deletion, modification, unlessAlone}
+use Rattle.page_meaning.specs.Trouble.{Formula, one, two, moved, formula, irrelevance, computability}
 use Rattle.page_meaning.proofs.Words.{C, put}
 use Rattle.page_meaning.specs.WellFormed.{ChangeOk}
 use Rattle.page_formulas.specs.Formulas.{putIn}
@@ -106,6 +106,12 @@ module _ (q : Question) where
   still-two : (ch : Change) → Still q ch → (i : ℕ) → ((v : Values) → putRow q ch i v ≡ v) × ((j : ℕ) → fixedBy q ch i j ≡ none)
   still-two ch s i = (s .puts i, s .fixes i)
 
+  -- any lines, from number i on
+  still-lines : (ch : Change) → Still q ch → (d : Condition) (ms : List Mode) (i : ℕ) (ls : List Line) → AllFrom (Puts q ch) i (map (formula q d ms) ls)
+  still-lines ch s d ms i [] = tt
+  still-lines ch s d ms i (single p ps ∷ ls) = (still-one ch s i _, still-lines ch s d ms (suc i) ls)
+  still-lines ch s d ms i (double p ps ∷ ls) = (still-two ch s i, still-lines ch s d ms (suc i) ls)
+
   delete-still : (d : Condition) → Still q (delete d)
   delete-still d = record { puts = λ i v. refl; fixes = λ i j. none-at (first q) j }
 
@@ -114,10 +120,10 @@ module _ (q : Question) where
 
   pub irrelevance-puts : (ch : Change) → ChangeOk q ch → AllFrom (Puts q ch) 0 (irrelevance q ch)
   irrelevance-puts (insert new) ok = puts-inserted q new 0 new (λ k. ap (λ m. getD new m []) (omega arith)) ok
-  irrelevance-puts (delete d) ok = (still-one (delete d) (delete-still d) 0 _, tt)
-  irrelevance-puts (modify d ms) ok = let s = modify-still d ms in (still-one (modify d ms) s 0 _, (still-one (modify d ms) s 1 _, (still-one (modify d ms) s 2 _, tt)))
+  irrelevance-puts (delete d) ok = still-lines (delete d) (delete-still d) d [] 0 (deletion true)
+  irrelevance-puts (modify d ms) ok = still-lines (modify d ms) (modify-still d ms) d ms 0 (modification (q .version) true)
 
   pub computability-puts : (ch : Change) → ChangeOk q ch → AllFrom (Puts q ch) 0 (computability q ch)
   computability-puts (insert new) ok = unless-from (Puts q (insert new)) (q .front) (q .back) (irrelevance q (insert new)) (puts-inserted q new 0 new (λ k. ap (λ m. getD new m []) (omega arith)) ok)
-  computability-puts (delete d) ok = (still-two (delete d) (delete-still d) 0, tt)
-  computability-puts (modify d ms) ok = let s = modify-still d ms in (still-one (modify d ms) s 0 _, (still-two (modify d ms) s 1, (still-two (modify d ms) s 2, (still-two (modify d ms) s 3, tt))))
+  computability-puts (delete d) ok = still-lines (delete d) (delete-still d) d [] 0 (deletion false)
+  computability-puts (modify d ms) ok = still-lines (modify d ms) (modify-still d ms) d ms 0 (modification (q .version) false)
