@@ -6,10 +6,11 @@ use mathlib.Core.List.{List, map}
 use lib.ListN.{length, getD, take, drop}
 use Rattle.page_meaning.specs.Claims as claim
 use Rattle.page_meaning.specs.Claims.{insertion, deletion, modification}
+use Rattle.page_meaning.specs.Contents.{Version, version1, version2}
 use Rattle.question.specs.declared.types.Verb.{Verb}
 use Rattle.question.specs.declared.types.Verb.the-variants.{Insert, Delete, Modify}
 use Rattle.formula_lines.specs.declared.types.Claim.{Claim}
-use Rattle.formula_lines.specs.declared.types.Claim.the-variants.{Listed, Relisted, Chosen, Moving, Staying, Differing}
+use Rattle.formula_lines.specs.declared.types.Claim.the-variants.{Listed, Relisted, Chosen, Fitting, Moving, Staying, Lasting, Differing}
 use Rattle.formula_lines.specs.declared.types.Part.{Part}
 use Rattle.formula_lines.specs.declared.types.Line.{Line}
 
@@ -17,8 +18,10 @@ abbrev pub claimOf : Claim → claim.Claim
 claimOf Listed = claim.listed
 claimOf Relisted = claim.relisted
 claimOf Chosen = claim.chosen
+claimOf Fitting = claim.fitting
 claimOf Moving = claim.moving
-claimOf Staying = claim.staying
+claimOf Staying = claim.staying version1
+claimOf Lasting = claim.staying version2
 claimOf (Differing other after) = claim.differing other after
 
 abbrev pub partBy : Bool → Bool → claim.Claim → claim.Part
@@ -62,14 +65,14 @@ pub record Tabled (r : Line) (l : claim.Line) : Type 0 where
   pub few : r .count ≤ mostParts
   pub long : length (r .parts) ≡ mostParts
 
--- the line of formula i, asked 1 or 2
-abbrev pub lineFor : Verb → Bool → ℕ → claim.Line
-lineFor Insert b i = insertion
-lineFor Delete b i = getD (deletion b) i insertion
-lineFor Modify b i = getD (modification b) i insertion
+-- the line of formula i of a question, asked 1 or 2
+abbrev pub lineFor : Version → Verb → Bool → ℕ → claim.Line
+lineFor v Insert b i = insertion
+lineFor v Delete b i = getD (deletion b) i insertion
+lineFor v Modify b i = getD (modification v b) i insertion
 
 -- there is such a line
-abbrev pub Numbered : Verb → Bool → ℕ → Type 0
-Numbered Insert b i = Unit {0}
-Numbered Delete b i = i < length (deletion b)
-Numbered Modify b i = i < length (modification b)
+abbrev pub Numbered : Version → Verb → Bool → ℕ → Type 0
+Numbered v Insert b i = Unit {0}
+Numbered v Delete b i = i < length (deletion b)
+Numbered v Modify b i = i < length (modification v b)

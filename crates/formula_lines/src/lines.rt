@@ -3,7 +3,11 @@ use crate::types::Claim;
 use crate::types::Line;
 use crate::types::Part;
 use question::types::Verb;
+use question::types::Version;
+ghost use mathlib.Core.Bool.{true, false};
 ghost use lib.Dec.{eqb};
+ghost use Rattle.page_meaning.specs.Contents as meant;
+ghost use Rattle.question.specs.Held.{versionOf};
 ghost use Rattle.formula_lines.specs.Lines.{lineFor, Numbered, Tabled};
 
 const C1: Part = Part {
@@ -84,6 +88,24 @@ const NOT_S2: Part = Part {
     denied: true,
 };
 
+const L1: Part = Part {
+    claim: Claim::Lasting,
+    second: false,
+    denied: false,
+};
+
+const NOT_L2: Part = Part {
+    claim: Claim::Lasting,
+    second: true,
+    denied: true,
+};
+
+const NOT_R1: Part = Part {
+    claim: Claim::Fitting,
+    second: false,
+    denied: true,
+};
+
 const SHOWN: Part = Part {
     claim: Claim::Differing(false, false),
     second: false,
@@ -141,9 +163,21 @@ const SHOWS: Line = Line {
     count: 4,
 };
 
+const RETIRED: Line = Line {
+    pairs: false,
+    parts: [D1, C1, NOT_R1, NO, NO, NO, NO],
+    count: 3,
+};
+
 const ONE_STAYS: Line = Line {
     pairs: true,
     parts: [C1, C2, S1, NOT_S2, NO, NO, NO],
+    count: 4,
+};
+
+const ONE_LASTS: Line = Line {
+    pairs: true,
+    parts: [C1, C2, L1, NOT_L2, NO, NO, NO],
     count: 4,
 };
 
@@ -159,35 +193,69 @@ const ONE_MOVES: Line = Line {
     count: 6,
 };
 
-fn of_modify(asked: u8, i: usize) -> Line
-    requires { ⌜ Numbered Verb.Modify (eqb asked 1) i ⌝ }
-    ensures { λ r. ⌜ Tabled r (lineFor Verb.Modify (eqb asked 1) i) ⌝ }
+const ONE_CHOSEN: Line = Line {
+    pairs: true,
+    parts: [C1, C2, M1, NOT_D2, F1, NEW_OLD, NO],
+    count: 6,
+};
+
+// A modify's lines for asked 1; only version 2 has the fourth.
+fn of_one(i: usize) -> Line
+    ensures { λ r. ⌜ ((v : meant.Version) → Numbered v Verb.Modify true i → Tabled r (lineFor v Verb.Modify true i)) ⌝ }
 {
-    if asked == 1 {
-        if i == 0 {
-            return LEAVES;
-        }
-        if i == 1 {
-            return ENTERS;
-        }
+    if i == 0 {
+        return LEAVES;
+    }
+    if i == 1 {
+        return ENTERS;
+    }
+    if i == 2 {
         return SHOWS;
     }
+    RETIRED
+}
+
+// One row is seen after the change, and one isn't.
+fn seen(version: Version) -> Line
+    ensures { λ r. ⌜ Tabled r (lineFor (versionOf version) Verb.Modify false 1) ⌝ }
+{
+    match version {
+        Version::One => ONE_STAYS,
+        Version::Two => ONE_LASTS,
+    }
+}
+
+// One row moves, and one stays where it is.
+fn apart(version: Version) -> Line
+    ensures { λ r. ⌜ Tabled r (lineFor (versionOf version) Verb.Modify false 3) ⌝ }
+{
+    match version {
+        Version::One => ONE_MOVES,
+        Version::Two => ONE_CHOSEN,
+    }
+}
+
+// A modify's lines for asked 2.
+fn of_two(version: Version, i: usize) -> Line
+    requires { ⌜ Numbered (versionOf version) Verb.Modify false i ⌝ }
+    ensures { λ r. ⌜ Tabled r (lineFor (versionOf version) Verb.Modify false i) ⌝ }
+{
     if i == 0 {
         return ENTERS;
     }
     if i == 1 {
-        return ONE_STAYS;
+        return seen(version);
     }
     if i == 2 {
         return BOTH_MOVE;
     }
-    ONE_MOVES
+    apart(version)
 }
 
 // The line of formula i; an insert has the same for every row.
-pub fn line_at(verb: Verb, asked: u8, i: usize) -> Line
-    requires { ⌜ Numbered verb (eqb asked 1) i ⌝ }
-    ensures { λ r. ⌜ Tabled r (lineFor verb (eqb asked 1) i) ⌝ }
+pub fn line_at(version: Version, verb: Verb, asked: u8, i: usize) -> Line
+    requires { ⌜ Numbered (versionOf version) verb (eqb asked 1) i ⌝ }
+    ensures { λ r. ⌜ Tabled r (lineFor (versionOf version) verb (eqb asked 1) i) ⌝ }
 {
     match verb {
         Verb::Insert => PUT_IN,
@@ -197,6 +265,11 @@ pub fn line_at(verb: Verb, asked: u8, i: usize) -> Line
             }
             ONE_REMOVED
         }
-        Verb::Modify => of_modify(asked, i),
+        Verb::Modify => {
+            if asked == 1 {
+                return of_one(i);
+            }
+            of_two(version, i)
+        }
     }
 }

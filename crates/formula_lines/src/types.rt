@@ -3,13 +3,16 @@
 // The longest line's parts.
 pub const PARTS: usize = 7;
 
-// Of a row: C; C(F); the change's condition; M; S; F of the row differs from row 1 or 2 (the second?), as that is or after the change (after?).
+// Of a row: C; C(F); the change's condition; its range tests; M; S of version 1 and of version 2; F of the row differs from row 1 or 2 (the
+// second?), as that is or after the change (after?).
 pub enum Claim {
     Listed,
     Relisted,
     Chosen,
+    Fitting,
     Moving,
     Staying,
+    Lasting,
     Differing(bool, bool),
 }
 

@@ -1,0 +1,34 @@
+use mathlib.Core.Path.{refl}
+use mathlib.Core.Bool.{false}
+use native.Mathlib.Omega.{arith}
+use Rattle.question.specs.Held.{versionOf}
+use Rattle.question.specs.declared.types.Verb.the-variants.{Modify}
+use Rattle.formula_lines.proofs.TableLines.{tabled}
+use borrow.Author.Needs.{needs}
+use Rattle.formula_lines.proofs.lines.of_two.Statement.{statement}
+use Rattle.formula_lines.proofs.lines.of_two.Tie as tie
+
+returns : tie.Need-returns
+returns c = let a = c .before .args in tabled (versionOf (a .version)) Modify false false (a .i) 0 refl (c .if1 .taken) (record { is = refl; some = omega arith; few = omega arith; long = refl })
+
+seen-requires : tie.Need-seen-requires
+seen-requires c κs = search needs
+
+returns-2 : tie.Need-returns-2
+returns-2 c = let a = c .before .before .before .args in tabled (versionOf (a .version)) Modify false false (a .i) 1 refl (c .before .if2 .taken) (c .seen .ensures)
+
+returns-3 : tie.Need-returns-3
+returns-3 c = let a = c .before .before .before .args in tabled (versionOf (a .version)) Modify false false (a .i) 2 refl (c .if3 .taken) (record { is = refl; some = omega arith; few = omega arith; long = refl })
+
+apart-requires : tie.Need-apart-requires
+apart-requires c κs = search needs
+
+returns-4 : tie.Need-returns-4
+returns-4 c =
+    let at = c .before .before .before .before in
+    let a = at .args in
+    tabled (versionOf (a .version)) Modify false false (a .i) 3 refl (omega (arith, at .pre, c .before .before .before .if1 .left, c .before .before .if2 .left, c .before .if3 .left)) (c .apart .ensures)
+
+pub of-two-spec : {M : Type 1} → statement M
+of-two-spec =
+    tie.close (tie.spec returns seen-requires returns-2 returns-3 apart-requires returns-4)
