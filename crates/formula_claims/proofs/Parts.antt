@@ -7,8 +7,8 @@ use native.Mathlib.Numerals.{add-one}
 use native.Mathlib.Omega.{arith}
 use lib.ListN.{length, getD, take, drop, length-map, List·getD-map}
 use lib.Seq.{take-suc, take-all, getD-take, length-take-le}
-use Rattle.page_meaning.specs.Contents.{Question}
-use Rattle.page_meaning.specs.Claims.{listed, relisted, chosen, moving, staying, differing, claims, readPart, readParts}
+use Rattle.page_meaning.specs.Contents.{version1, version2, Question}
+use Rattle.page_meaning.specs.Claims.{listed, relisted, chosen, fitting, moving, staying, differing, claims, readPart, readParts}
 use Rattle.page_meaning.specs.Claims as claim
 use Rattle.page_formulas.specs.Costs.{Cost, claimCost, partCost, deniedCost, joinedCost, costs, Fits}
 use Rattle.page_formulas.specs.Costs as most
@@ -34,8 +34,10 @@ either-row : (c : claim.Claim) (i : Bool) → claims costs (λ i. tt) c i ≡ cl
 either-row listed i = refl
 either-row relisted i = refl
 either-row chosen i = refl
+either-row fitting i = refl
 either-row moving i = refl
-either-row staying i = refl
+either-row (staying version1) i = refl
+either-row (staying version2) i = refl
 either-row (differing j new) i = refl
 
 part-cost : (c : claim.Claim) (second denied : Bool) → partCost (partBy second denied c) ≡ cond denied (deniedCost (claimCost c)) (claimCost c)

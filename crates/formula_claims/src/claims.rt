@@ -9,11 +9,13 @@ use limits::PLACES;
 use pieces::conditions::condition;
 use pieces::differences::differs;
 use pieces::ranges::bounded_all;
+use pieces::ranges::ranged;
 use program::instructions::emit;
 use program::types::End;
 use program::types::Joint;
 ghost use Rattle.page_meaning.specs.Contents as meant;
-ghost use Rattle.page_meaning.specs.Claims.{staying, claims, readPart, readParts};
+ghost use Rattle.page_meaning.specs.Contents.{version1, version2};
+ghost use Rattle.page_meaning.specs.Claims.{fitting, staying, claims, readPart, readParts};
 ghost use Rattle.page_formulas.specs.Costs.{movingCost, claimCost, partCost, Fits};
 ghost use Rattle.program.specs.Built.{programOf, Long, Room, Builds, Means};
 ghost use Rattle.formula_lines.specs.Lines.{claimOf, partOf, firstOf, restOf, lineOf, Tabled};
@@ -42,7 +44,26 @@ pub fn moves(
     bounded_all(kinds, left, right, most, one, new, columns)
 }
 
-// S
+// The range tests alone.
+pub fn in_range(
+    kinds: &mut [u8; INSTRUCTIONS],
+    left: &mut [u8; PLACES],
+    right: &mut [u8; PLACES],
+    most: &mut [i64; PLACES],
+    at: End,
+    d: Context,
+    second: bool,
+) -> End
+    requires { ⌜ Room (programOf (now kinds) (now left) (now right) (now most) at) (claimCost fitting .instructions) (claimCost fitting .places) × Legible d ⌝ }
+    ensures { λ r. ⌜ ((Q : meant.Question) → Under Q d → Builds (programOf (now (kinds .entry)) (now (left .entry)) (now (right .entry)) (now (most .entry)) at) (programOf (now (kinds .exit)) (now (left .exit)) (now (right .exit)) (now (most .exit)) r) (claimCost fitting .instructions) (claimCost fitting .places) (claims (wordsOf Q d) (rowsOf Q (d .pairs)) fitting second)) ⌝ }
+{
+    let s = d.sight;
+    let columns = d.columns;
+    let new = view(s, d.pairs, second, true);
+    ranged(kinds, left, right, most, at, new, columns)
+}
+
+// S of version 1.
 pub fn stays(
     kinds: &mut [u8; INSTRUCTIONS],
     left: &mut [u8; PLACES],
@@ -52,8 +73,8 @@ pub fn stays(
     d: Context,
     second: bool,
 ) -> End
-    requires { ⌜ Room (programOf (now kinds) (now left) (now right) (now most) at) (claimCost staying .instructions) (claimCost staying .places) × Legible d ⌝ }
-    ensures { λ r. ⌜ ((Q : meant.Question) → Under Q d → Builds (programOf (now (kinds .entry)) (now (left .entry)) (now (right .entry)) (now (most .entry)) at) (programOf (now (kinds .exit)) (now (left .exit)) (now (right .exit)) (now (most .exit)) r) (claimCost staying .instructions) (claimCost staying .places) (claims (wordsOf Q d) (rowsOf Q (d .pairs)) staying second)) ⌝ }
+    requires { ⌜ Room (programOf (now kinds) (now left) (now right) (now most) at) (claimCost (staying version1) .instructions) (claimCost (staying version1) .places) × Legible d ⌝ }
+    ensures { λ r. ⌜ ((Q : meant.Question) → Under Q d → Builds (programOf (now (kinds .entry)) (now (left .entry)) (now (right .entry)) (now (most .entry)) at) (programOf (now (kinds .exit)) (now (left .exit)) (now (right .exit)) (now (most .exit)) r) (claimCost (staying version1) .instructions) (claimCost (staying version1) .places) (claims (wordsOf Q d) (rowsOf Q (d .pairs)) (staying version1) second)) ⌝ }
 {
     let s = d.sight;
     let listed = d.listed;
@@ -62,6 +83,32 @@ pub fn stays(
     let new = view(s, d.pairs, second, true);
     let three = condition(kinds, left, right, most, two, new, listed);
     emit(kinds, left, right, most, three, Joint::Or)
+}
+
+// S of version 2.
+pub fn lasts(
+    kinds: &mut [u8; INSTRUCTIONS],
+    left: &mut [u8; PLACES],
+    right: &mut [u8; PLACES],
+    most: &mut [i64; PLACES],
+    at: End,
+    d: Context,
+    second: bool,
+) -> End
+    requires { ⌜ Room (programOf (now kinds) (now left) (now right) (now most) at) (claimCost (staying version2) .instructions) (claimCost (staying version2) .places) × Legible d ⌝ }
+    ensures { λ r. ⌜ ((Q : meant.Question) → Under Q d → Builds (programOf (now (kinds .entry)) (now (left .entry)) (now (right .entry)) (now (most .entry)) at) (programOf (now (kinds .exit)) (now (left .exit)) (now (right .exit)) (now (most .exit)) r) (claimCost (staying version2) .instructions) (claimCost (staying version2) .places) (claims (wordsOf Q d) (rowsOf Q (d .pairs)) (staying version2) second)) ⌝ }
+{
+    let s = d.sight;
+    let listed = d.listed;
+    let chosen = d.chosen;
+    let old = view(s, d.pairs, second, false);
+    let one = condition(kinds, left, right, most, at, old, chosen);
+    let two = emit(kinds, left, right, most, one, Joint::Not);
+    let three = in_range(kinds, left, right, most, two, d, second);
+    let new = view(s, d.pairs, second, true);
+    let four = condition(kinds, left, right, most, three, new, listed);
+    let five = emit(kinds, left, right, most, four, Joint::And);
+    emit(kinds, left, right, most, five, Joint::Or)
 }
 
 // What a claim says of the first row or the second.
@@ -94,8 +141,10 @@ pub fn claim_of(
             let old = view(s, d.pairs, second, false);
             condition(kinds, left, right, most, at, old, chosen)
         }
+        Claim::Fitting => in_range(kinds, left, right, most, at, d, second),
         Claim::Moving => moves(kinds, left, right, most, at, d, second),
         Claim::Staying => stays(kinds, left, right, most, at, d, second),
+        Claim::Lasting => lasts(kinds, left, right, most, at, d, second),
         Claim::Differing(other, after) => {
             let new = view(s, d.pairs, second, true);
             let than = view(s, d.pairs, other, after);

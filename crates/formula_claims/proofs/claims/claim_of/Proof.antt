@@ -56,14 +56,26 @@ condition-requires-3 c κs =
 enum-told-4 : tie.Need-enum-told-4
 enum-told-4 c = search needs
 
-moves-requires : tie.Need-moves-requires
-moves-requires c κs = (rw (ap claimOf (c .before .before .before .before .enum-told4 .given .1)) at (c .before .before .before .before .before .before .before .before .before .pre .0), c .before .before .before .before .before .before .before .before .before .pre .1)
+in-range-requires : tie.Need-in-range-requires
+in-range-requires c κs = (rw (ap claimOf (c .before .before .before .before .enum-told4 .given .1)) at (c .before .before .before .before .before .before .before .before .before .pre .0), c .before .before .before .before .before .before .before .before .before .pre .1)
 
 enum-told-5 : tie.Need-enum-told-5
 enum-told-5 c = search needs
 
+moves-requires : tie.Need-moves-requires
+moves-requires c κs = (rw (ap claimOf (c .before .before .before .before .enum-told5 .given .1)) at (c .before .before .before .before .before .before .before .before .before .pre .0), c .before .before .before .before .before .before .before .before .before .pre .1)
+
+enum-told-6 : tie.Need-enum-told-6
+enum-told-6 c = search needs
+
 stays-requires : tie.Need-stays-requires
-stays-requires c κs = (rw (ap claimOf (c .before .before .before .before .enum-told5 .given .1)) at (c .before .before .before .before .before .before .before .before .before .pre .0), c .before .before .before .before .before .before .before .before .before .pre .1)
+stays-requires c κs = (rw (ap claimOf (c .before .before .before .before .enum-told6 .given .1)) at (c .before .before .before .before .before .before .before .before .before .pre .0), c .before .before .before .before .before .before .before .before .before .pre .1)
+
+enum-told-7 : tie.Need-enum-told-7
+enum-told-7 c = search needs
+
+lasts-requires : tie.Need-lasts-requires
+lasts-requires c κs = (rw (ap claimOf (c .before .before .before .before .enum-told7 .given .1)) at (c .before .before .before .before .before .before .before .before .before .pre .0), c .before .before .before .before .before .before .before .before .before .pre .1)
 
 enum-known-c : tie.Need-enum-known-c
 enum-known-c c = search needs
@@ -101,13 +113,19 @@ returns-3 c Q u =
     (said (ap (λ v. conditionProgram (sightOf v) (conditionOf (d .chosen))) (c .before .before .before .before .before .view3 .ensures) ∙ chosen-is Q d u (c .before .before .before .before .before .before .before .before .before .before .before .args .second)) (c .condition3 .ensures))
 
 returns-4 : tie.Need-returns-4
-returns-4 c Q u = rw (ap claimOf (c .before .before .before .before .before .enum-told4 .given .1)) (c .moves .ensures Q u)
+returns-4 c Q u = rw (ap claimOf (c .before .before .before .before .before .enum-told4 .given .1)) (c .in-range .ensures Q u)
 
 returns-5 : tie.Need-returns-5
-returns-5 c Q u = rw (ap claimOf (c .before .before .before .before .before .enum-told5 .given .1)) (c .stays .ensures Q u)
+returns-5 c Q u = rw (ap claimOf (c .before .before .before .before .before .enum-told5 .given .1)) (c .moves .ensures Q u)
 
 returns-6 : tie.Need-returns-6
-returns-6 c Q u =
+returns-6 c Q u = rw (ap claimOf (c .before .before .before .before .before .enum-told6 .given .1)) (c .stays .ensures Q u)
+
+returns-7 : tie.Need-returns-7
+returns-7 c Q u = rw (ap claimOf (c .before .before .before .before .before .enum-told7 .given .1)) (c .lasts .ensures Q u)
+
+returns-8 : tie.Need-returns-8
+returns-8 c Q u =
     let d = c .before .before .before .before .before .before .before .before .before .before .before .before .before .args .d in
     let k = c .before .before .before .before .before .before .before .before .c .given in
     rw (ap claimOf (k .1))
@@ -127,9 +145,13 @@ claim-of-spec =
     view-requires-3
     condition-requires-3
     enum-told-4
-    moves-requires
+    in-range-requires
     enum-told-5
+    moves-requires
+    enum-told-6
     stays-requires
+    enum-told-7
+    lasts-requires
     enum-known-c
     view-requires-4
     view-requires-5
@@ -139,4 +161,6 @@ claim-of-spec =
     returns-3
     returns-4
     returns-5
-    returns-6)
+    returns-6
+    returns-7
+    returns-8)
