@@ -10,15 +10,15 @@ use lib.ListN.{length, take, drop, length-map, length-drop}
 use lib.Seq.{length-take-le}
 use Rattle.page_meaning.specs.Contents.{Range, Table}
 use Rattle.page_meaning.specs.Contents as M
-use Rattle.page_meaning.specs.Claims.{insertion, unlessAlone}
+use Rattle.page_meaning.specs.Claims.{insertion, modification, unlessAlone}
 use Rattle.page_questions.specs.Layout.{tablesOf, firstOf, widthOf, questionFrom}
-use Rattle.question.specs.Held.{rowOf, rangesOf, widthsOf, conditionOf, questionOf}
+use Rattle.question.specs.Held.{versionOf, rowOf, rangesOf, widthsOf, conditionOf, questionOf}
 use Rattle.question.specs.declared.types.Question.{Question}
 use Rattle.question.specs.declared.types.Verb.the-variants.{Insert, Delete, Modify}
 use Rattle.page_formulas.specs.Formulas as F
 use Rattle.formula_contexts.specs.Contexts.{Able, settledModes}
 use Rattle.formula.specs.Formulas.{Widths}
-use Rattle.formula.proofs.NumberedFormulas.{lists, by}
+use Rattle.formula.proofs.NumberedFormulas.{version-is, lists, by}
 
 tables-length : (ws : List ℕ) (gs : List Range) → length (tablesOf ws gs) ≡ length ws
 unfolding tablesOf
@@ -83,8 +83,8 @@ module _ (q : Question) (asked : ℕ) where
     counted : (b : Bool) → eqb asked 1 ≡ b → length (F.formulas (questionOf q) asked) ≡ length (lists (questionOf q) (M.modify (conditionOf (q .change .condition)) (settledModes q)) b)
     counted b k = ap length (by q asked Modify e) ∙ ap (λ b. length (lists (questionOf q) (M.modify (conditionOf (q .change .condition)) (settledModes q)) b)) k
 
-    pub modify-first : asked ≡ 1 → 3 ≡ length (F.formulas (questionOf q) asked)
-    modify-first k = sym (counted true (eq-eqb asked 1 k))
+    pub modify-first : asked ≡ 1 → length (modification (versionOf (q .version)) true) ≡ length (F.formulas (questionOf q) asked)
+    modify-first k = sym (counted true (eq-eqb asked 1 k) ∙ length-map (modification (questionOf q .version) true) _ ∙ ap (λ v. length (modification v true)) (version-is q))
 
     pub modify-second : (asked ≡ 1 → ⊥) → 4 ≡ length (F.formulas (questionOf q) asked)
     modify-second k = sym (counted false (ne-eqb asked 1 k))

@@ -7,13 +7,13 @@ use native.Mathlib.Omega.{arith}
 use lib.Dec.{eqb}
 use lib.ListN.{length, getD, take, length-map}
 use lib.Seq.{getD-take, length-take-le}
-use Rattle.page_meaning.specs.Contents.{Table, Change, Mode, become, columns}
+use Rattle.page_meaning.specs.Contents.{Version, Table, Change, Mode, become, columns}
 use Rattle.page_meaning.specs.Contents as M
 use Rattle.page_meaning.specs.Claims.{Part, Line, insertion, deletion, modification, readParts, unlessAlone, formulasBy}
 use Rattle.page_meaning.specs.Condition.{Condition}
 use Rattle.page_questions.specs.Guarantees.{Every}
 use Rattle.page_questions.specs.Layout.{questionFrom}
-use Rattle.question.specs.Held.{changeBy, changeOf, rowOf, conditionOf, questionOf}
+use Rattle.question.specs.Held.{versionOf, changeBy, changeOf, rowOf, conditionOf, questionOf}
 use Rattle.question.specs.declared.types.Question.{Question}
 use Rattle.question.specs.declared.types.Verb.{Verb}
 use Rattle.question.specs.declared.types.Verb.the-variants.{Insert, Delete, Modify}
@@ -36,6 +36,10 @@ pub change-is : (q : Question) → questionOf q .change ≡ changeOf (q .shape .
 unfolding questionOf questionFrom
 change-is q = refl
 
+pub version-is : (q : Question) → questionOf q .version ≡ versionOf (q .version)
+unfolding questionOf questionFrom
+version-is q = refl
+
 -- the formulas of a change, as asked
 abbrev pub lists : M.Question → Change → Bool → List F.Formula
 lists Q ch b = formulasBy (F.formula Q) Q ch b
@@ -57,8 +61,8 @@ not-left-out (t ∷ ts) us l i h = refl
 
 pub record Found (q : Question) (v : Verb) (b : Bool) (i : ℕ) (l : List F.Formula) : Type 0 where
   pub row : v ≡ Insert → i < q .change .count
-  pub line : Numbered v b i
-  pub formula : formulaAt l i ≡ F.formula (questionOf q) (conditionFor v q) (modesFor v q i) (lineFor v b i)
+  pub line : Numbered (versionOf (q .version)) v b i
+  pub formula : formulaAt l i ≡ F.formula (questionOf q) (conditionFor v q) (modesFor v q i) (lineFor (versionOf (q .version)) v b i)
 
 module _ (q : Question) (i : ℕ) where
   abbrev new : List M.Values
@@ -82,7 +86,7 @@ module _ (q : Question) (i : ℕ) where
             ∙ ap put (map-at (rowOf (q .shape .width)) r i noRow _ (omega (arith, length-map new put, length-map r (rowOf (q .shape .width)))) ∙ ap (rowOf (q .shape .width)) (getD-take (q .change .count) (q .change .rows) i noRow k));
       }
 
-  line-found : (v : Verb) (b : Bool) (ls : List Line) → (v ≡ Insert → ⊥) → (i < length ls → Numbered v b i) → getD ls i insertion ≡ lineFor v b i → i < length (map (F.formula (questionOf q) (conditionFor v q) (modesFor v q i)) ls) → Found q v b i (map (F.formula (questionOf q) (conditionFor v q) (modesFor v q i)) ls)
+  line-found : (v : Verb) (b : Bool) (ls : List Line) → (v ≡ Insert → ⊥) → (i < length ls → Numbered (versionOf (q .version)) v b i) → getD ls i insertion ≡ lineFor (versionOf (q .version)) v b i → i < length (map (F.formula (questionOf q) (conditionFor v q) (modesFor v q i)) ls) → Found q v b i (map (F.formula (questionOf q) (conditionFor v q) (modesFor v q i)) ls)
   line-found v b ls other there is h =
       let f = F.formula (questionOf q) (conditionFor v q) (modesFor v q i) in
       let k : i < length ls = omega (arith, length-map ls f) in
@@ -97,7 +101,9 @@ module _ (q : Question) (i : ℕ) where
     where
       not-insert : _≡_ {A = Verb} Delete Insert → ⊥
       not-insert e = let z : _≡_ {A = ℕ} 0 1 = cc in absurd (omega arith)
-  found-by Modify b a h = line-found Modify b (modification b) (λ e. not-insert e) (λ k. k) refl h
+  found-by Modify b a h =
+      let e = version-is q in
+      line-found Modify b (modification (questionOf q .version) b) (λ e. not-insert e) (λ k. subst (λ x. i < length (modification x b)) e k) (ap (λ x. getD (modification x b) i insertion) e) h
     where
       not-insert : _≡_ {A = Verb} Modify Insert → ⊥
       not-insert e = let z : _≡_ {A = ℕ} 0 1 = cc in absurd (omega arith)
@@ -114,10 +120,10 @@ fits-at [] i h e = absurd (omega arith)
 fits-at (l ∷ ls) zero h e = e .0
 fits-at (l ∷ ls) (suc i) h e = fits-at ls i (omega arith) (e .1)
 
-pub line-fits : (v : Verb) (b : Bool) (i : ℕ) → Numbered v b i → Fits (lineFor v b i)
-line-fits Insert b i h = insertion-fits
-line-fits Delete b i h = fits-at (deletion b) i h (deletion-fits b)
-line-fits Modify b i h = fits-at (modification b) i h (modification-fits b)
+pub line-fits : (x : Version) (v : Verb) (b : Bool) (i : ℕ) → Numbered x v b i → Fits (lineFor x v b i)
+line-fits x Insert b i h = insertion-fits
+line-fits x Delete b i h = fits-at (deletion b) i h (deletion-fits b)
+line-fits x Modify b i h = fits-at (modification x b) i h (modification-fits x b)
 
 -- ---- a formula from its program and its vertices
 
@@ -125,12 +131,13 @@ outlined : (Q : M.Question) (f : compiled.Formula) (d : Condition) (ms : List Mo
 outlined Q f d ms true p ps k m s = record { program = m; pairs = k; vertices = s }
 outlined Q f d ms false p ps k m s = record { program = m; pairs = k; vertices = s }
 
-module _ (q : Question) (f : compiled.Formula) (l : declared.Line) (d : types.Context) (v : Verb) (b : Bool) (i : ℕ) (fs : List F.Formula) (w : Found q v b i fs) (t : Tabled l (lineFor v b i)) (n : Done q (conditionFor v q) (modesFor v q i) (l .pairs) d) where
+module _ (q : Question) (f : compiled.Formula) (l : declared.Line) (d : types.Context) (v : Verb) (b : Bool) (i : ℕ) (fs : List F.Formula) (w : Found q v b i fs) (t : Tabled l (lineFor (versionOf (q .version)) v b i)) (n : Done q (conditionFor v q) (modesFor v q i) (l .pairs) d) where
   pub written : f .pairs ≡ l .pairs → Means (f .program) (readParts (wordsOf (questionOf q) d) (rowsOf (questionOf q) (d .pairs)) (firstOf l) (restOf l)) → Spans (f .vertices) (cond (l .pairs) (F.bothRanges (questionOf q)) (F.firstRanges (columns (questionOf q)))) → Compiled f (formulaAt fs i)
   written e m s =
       let Q = questionOf q in
+      let line = lineFor (versionOf (q .version)) v b i in
       let k = subst (λ two. Means (f .program) (readParts (wordsOf Q d) (rowsOf Q two) (firstOf l) (restOf l))) (n .pairs) m in
       subst (Compiled f) (sym (w .formula))
-      (subst (λ x. Compiled f (F.formula Q x (modesFor v q i) (lineFor v b i))) (n .condition)
-      (subst (λ x. Compiled f (F.formula Q (conditionOf (d .chosen)) x (lineFor v b i))) (n .modes)
+      (subst (λ x. Compiled f (F.formula Q x (modesFor v q i) line)) (n .condition)
+      (subst (λ x. Compiled f (F.formula Q (conditionOf (d .chosen)) x line)) (n .modes)
       (subst (λ x. Compiled f (F.formula Q (conditionOf (d .chosen)) (modesOf (d .sight)) x)) (t .is) (outlined Q f (conditionOf (d .chosen)) (modesOf (d .sight)) (l .pairs) (firstOf l) (restOf l) e k s))))

@@ -7,6 +7,7 @@ use limits::PLACES;
 use program::types::Outline;
 use question::types::Question;
 use question::types::Verb;
+use question::types::Version;
 use vertices::vertices;
 ghost use mathlib.Core.Path.{_≡_};
 ghost use Prim.Native.Nat.{_<_};
@@ -35,7 +36,8 @@ pub fn outline(
 {
     let change = q.change;
     let verb = change.verb;
-    let line = line_at(verb, asked, i);
+    let version = q.version;
+    let line = line_at(version, verb, asked, i);
     let pairs = line.pairs;
     let context = context_of(q, i, pairs);
     let end = line_of(kinds, left, right, most, context, line);
@@ -63,6 +65,21 @@ pub fn insert_count(q: Question, asked: u8) -> usize
     change.count
 }
 
+// FORMAT 5.3: asked 1, version 2 has one more.
+pub fn modify_count(q: Question, asked: u8) -> usize
+    requires { ⌜ q .change .verb ≡ Verb.Modify ⌝ }
+    ensures { λ r. ⌜ r ≡ length (formulas (questionOf q) asked) ⌝ }
+{
+    let version = q.version;
+    if asked == 1 {
+        return match version {
+            Version::One => 3,
+            Version::Two => 4,
+        };
+    }
+    4
+}
+
 // How many formulas an accepted question has.
 pub fn formula_count(q: Question, asked: u8) -> usize
     requires { ⌜ Held q × Accepted (questionOf q) ⌝ }
@@ -73,11 +90,6 @@ pub fn formula_count(q: Question, asked: u8) -> usize
     match verb {
         Verb::Insert => insert_count(q, asked),
         Verb::Delete => 1,
-        Verb::Modify => {
-            if asked == 1 {
-                return 3;
-            }
-            4
-        }
+        Verb::Modify => modify_count(q, asked),
     }
 }

@@ -93,11 +93,11 @@ pub enum Version {
 // The first `total` columns count. Column numbers run over all tables; rows and settings speak of the changed table's column
 // `first + j` at j.
 pub struct Question {
-    pub version: Version,
     pub shape: Shape,
     pub columns: [Column; COLUMNS],
     pub condition: Condition,
     pub change: Change,
+    pub version: Version,
 }
 
 pub enum Answer {

@@ -1,6 +1,6 @@
 use mathlib.Core.Path.{sym, _∙_}
 use lib.ListN.{length-map}
-use Rattle.formula.proofs.Counts.{delete-count, modify-first, modify-second}
+use Rattle.formula.proofs.Counts.{delete-count}
 use Rattle.formula.proofs.Readiness.{able}
 use borrow.Author.Needs.{needs}
 use Rattle.formula.proofs.formulas.formula_count.Statement.{statement}
@@ -31,21 +31,17 @@ enum-told-2 c = search needs
 enum-told-3 : tie.Need-enum-told-3
 enum-told-3 c = search needs
 
+modify-count-requires : tie.Need-modify-count-requires
+modify-count-requires c κs = search needs
+
 returns : tie.Need-returns
-returns c =
-    let at = c .before .before .before .before in
-    modify-first (at .args .q) (at .args .asked) (c .before .enum-told3 .given .1) (c .if1 .taken)
+returns c = search needs
 
 returns-2 : tie.Need-returns-2
-returns-2 c = search needs
+returns-2 c = delete-count (c .before .before .before .args .q) (c .before .before .before .args .asked) (c .enum-told2 .given .1)
 
 returns-3 : tie.Need-returns-3
-returns-3 c = delete-count (c .before .before .before .args .q) (c .before .before .before .args .asked) (c .enum-told2 .given .1)
-
-returns-4 : tie.Need-returns-4
-returns-4 c =
-    let at = c .before .before .before .before in
-    modify-second (at .args .q) (at .args .asked) (c .before .enum-told3 .given .1) (c .if1 .left)
+returns-3 c = search needs
 
 pub formula-count-spec : {M : Type 1} → statement M
 formula-count-spec =
@@ -55,7 +51,7 @@ formula-count-spec =
     insert-count-requires
     enum-told-2
     enum-told-3
+    modify-count-requires
     returns
     returns-2
-    returns-3
-    returns-4)
+    returns-3)

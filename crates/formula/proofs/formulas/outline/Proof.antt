@@ -1,7 +1,7 @@
 use mathlib.Core.Path.{refl, sym, _∙_, subst}
 use lib.Dec.{eqb}
 use lib.ListN.{length-map}
-use Rattle.question.specs.Held.{questionOf}
+use Rattle.question.specs.Held.{versionOf, questionOf}
 use Rattle.page_formulas.specs.Costs.{Fits}
 use Rattle.page_formulas.specs.Formulas as F
 use Rattle.program.specs.Compiled.{Spans}
@@ -46,7 +46,7 @@ line-of-requires c κs =
       at .pre .0,
       c .before .before .before .before .context-of .ensures .legible,
       record { is = refl; some = l .ensures .some; few = l .ensures .few; long = l .ensures .long },
-      subst Fits (sym (l .ensures .is)) (line-fits (a .q .change .verb) (eqb (a .asked) 1) (a .i) (which at .line)),
+      subst Fits (sym (l .ensures .is)) (line-fits (versionOf (a .q .version)) (a .q .change .verb) (eqb (a .asked) 1) (a .i) (which at .line)),
     )
 
 vertices-requires : tie.Need-vertices-requires
