@@ -7,8 +7,10 @@ use native.Mathlib.Omega.{arith}
 use lib.ListN.{take, drop}
 use lib.Seq.{take-take}
 use Rattle.page_numbers.specs.Outcome.{refused}
+use Rattle.page_meaning.specs.Condition.{Condition}
+use Rattle.page_meaning.specs.Contents.{Version, Change}
 use Rattle.page_questions.specs.Layout as L
-use Rattle.page_questions.specs.Reader.{Read, changeAt, fromVisible, fromCondition}
+use Rattle.page_questions.specs.Reader.{Read, ending, changeAt, fromVisible, fromCondition}
 use Rattle.question.specs.Held.{Reads, ShapeHeld, widthsOf, columnOf}
 use Rattle.question.specs.Parts.{rangesAt}
 use Rattle.tables.specs.Shapes.{some}
@@ -19,6 +21,12 @@ use Rattle.question.specs.declared.types.Reading.{Reading}
 -- the same answer, said otherwise
 pub reads-as : {r : Reading} {o u : Read} → o ≡ u → Reads r o → Reads r u
 reads-as e h = record { meaning = h .meaning ∙ e; held = h .held }
+
+-- the same version, said otherwise
+pub version-as : {v w : Version} (s ws : List ℕ) (t : ℕ) (cs : List L.Column) (c : Condition) (ch : Change) (p : ℕ)
+    → v ≡ w
+    → ending s (L.questionFrom v ws t cs c ch) p ≡ ending s (L.questionFrom w ws t cs c ch) p
+version-as s ws t cs c ch p e = ap (λ x. ending s (L.questionFrom x ws t cs c ch) p) e
 
 -- ---- none visible
 
