@@ -1,14 +1,11 @@
-use Prim.Native.Nat.{ℕ, suc, _≤_, _<_}
-use borrow.Author.Tests.{le-leb, lt-leb, lt-ltb, le-ltb}
+use denote.Ref.{now}
+use borrow.Author.Tests.{le-leb, lt-leb}
 use native.Mathlib.Omega.{arith}
-use Rattle.page_questions.specs.Reader.{fromVersion}
+use Rattle.page_questions.specs.Reader.{versionIn, fromVersion}
+use Rattle.reader.proofs.Chain.{version-none, version-above, version-known}
 use borrow.Author.Needs.{needs}
 use Rattle.reader.proofs.reader.from_version.Statement.{statement}
 use Rattle.reader.proofs.reader.from_version.Tie as tie
-
--- below the number that follows
-le-lt : (a b : ℕ) → a ≤ b → a < suc b
-le-lt a b h = omega arith
 
 refusal-requires : tie.Need-refusal-requires
 refusal-requires c κs = search needs
@@ -42,7 +39,8 @@ returns-2 : tie.Need-returns-2
 unfolding fromVersion
 returns-2 c =
     let e = c .before .before .before .before in
-    rw (le-leb _ _ (e .if1 .left), lt-leb _ _ (c .before .if2 .taken)) (c .refusal2 .ensures)
+    let n = versionIn (now (e .before .before .args .s)) in
+    rw (le-leb _ _ (e .if1 .left), version-none n (omega (arith, c .before .if2 .taken))) (c .refusal2 .ensures)
 
 refusal-requires-3 : tie.Need-refusal-requires-3
 refusal-requires-3 c κs = search needs
@@ -52,7 +50,8 @@ unfolding fromVersion
 returns-3 c =
     let v = c .before .before in
     let e = v .before .before .before in
-    rw (le-leb _ _ (e .if1 .left), le-leb _ _ (v .if2 .left), le-ltb _ _ (c .before .if3 .taken)) (c .refusal3 .ensures)
+    let n = versionIn (now (e .before .before .args .s)) in
+    rw (le-leb _ _ (e .if1 .left), version-above n (omega (arith, c .before .if3 .taken))) (c .refusal3 .ensures)
 
 from-tables-requires : tie.Need-from-tables-requires
 from-tables-requires c κs = search needs
@@ -62,7 +61,8 @@ unfolding fromVersion
 returns-4 c =
     let v = c .before .before in
     let e = v .before .before .before in
-    rw (le-leb _ _ (e .if1 .left), le-leb _ _ (v .if2 .left), lt-ltb _ 3 (le-lt _ 2 (c .before .if3 .left))) (c .from-tables .ensures)
+    let n = versionIn (now (e .before .before .args .s)) in
+    rw (le-leb _ _ (e .if1 .left), version-known n (omega (arith, v .if2 .left)) (omega (arith, c .before .if3 .left))) (c .from-tables .ensures)
 
 pub from-version-spec : {M : Type 1} → statement M
 from-version-spec =
