@@ -32,14 +32,14 @@ module _ (q : Question) (w : Whole q) where
 
   pub columns-are : columns (questionOf q) ≡ rangesOf q
   unfolding questionOf
-  columns-are = columns-from (widthsOf (q .shape)) (q .shape .changed) (H.columnsOf q) inside whole _ _
+  columns-are = columns-from (widthsOf (q .shape)) (q .shape .changed) (H.columnsOf q) inside whole _ _ _
 
   pub columns-length : length (columns (questionOf q)) ≡ q .shape .total
   columns-length = ap length columns-are ∙ ranges-length
 
   pub first-is : first (questionOf q) ≡ q .shape .first
   unfolding questionOf
-  first-is = first-from (widthsOf (q .shape)) (q .shape .changed) (H.columnsOf q) inside whole _ _ ∙ sym (w .held .shape .first)
+  first-is = first-from (widthsOf (q .shape)) (q .shape .changed) (H.columnsOf q) inside whole _ _ _ ∙ sym (w .held .shape .first)
 
   pub changed-is : questionOf q .changed ≡ take (q .shape .width) (drop (q .shape .first) (rangesOf q))
   unfolding questionOf questionFrom
