@@ -2,13 +2,16 @@
 use mathlib.Core.Path.{_≡_, refl, sym, ap, _∙_}
 use mathlib.Core.Bool.{Bool, true, false}
 use mathlib.Core.List.{List, [], _∷_, map}
-use Prim.Native.Nat.{ℕ, zero, suc, _+_, _≤_}
+use Prim.Native.Nat.{ℕ, zero, suc, _+_, _≤_, _<_}
 use native.Mathlib.Omega.{arith}
 use lib.ListN.{take, drop}
 use lib.Seq.{take-take}
+use borrow.Author.Tests.{le-leb, lt-leb, lt-ltb, le-ltb}
 use Rattle.page_numbers.specs.Outcome.{refused}
+use Rattle.page_meaning.specs.Condition.{Condition}
+use Rattle.page_meaning.specs.Contents.{Version, Change}
 use Rattle.page_questions.specs.Layout as L
-use Rattle.page_questions.specs.Reader.{Read, changeAt, fromVisible, fromCondition}
+use Rattle.page_questions.specs.Reader.{Read, versioned, ending, changeAt, fromVisible, fromCondition}
 use Rattle.question.specs.Held.{Reads, ShapeHeld, widthsOf, columnOf}
 use Rattle.question.specs.Parts.{rangesAt}
 use Rattle.tables.specs.Shapes.{some}
@@ -19,6 +22,23 @@ use Rattle.question.specs.declared.types.Reading.{Reading}
 -- the same answer, said otherwise
 pub reads-as : {r : Reading} {o u : Read} → o ≡ u → Reads r o → Reads r u
 reads-as e h = record { meaning = h .meaning ∙ e; held = h .held }
+
+-- ---- the version
+
+pub version-none : (n : ℕ) → n < 1 → versioned n ≡ false
+version-none n h = rw (lt-leb 1 n h) refl
+
+pub version-above : (n : ℕ) → 2 < n → versioned n ≡ false
+version-above n h = rw (le-leb 1 n (omega arith), le-ltb n 3 h) refl
+
+pub version-known : (n : ℕ) → 1 ≤ n → n ≤ 2 → versioned n ≡ true
+version-known n l h = rw (le-leb 1 n l, lt-ltb n 3 (omega arith)) refl
+
+-- the same version, said otherwise
+pub version-as : {v w : Version} (s ws : List ℕ) (t : ℕ) (cs : List L.Column) (c : Condition) (ch : Change) (p : ℕ)
+    → v ≡ w
+    → ending s (L.questionFrom v ws t cs c ch) p ≡ ending s (L.questionFrom w ws t cs c ch) p
+version-as s ws t cs c ch p e = ap (λ x. ending s (L.questionFrom x ws t cs c ch) p) e
 
 -- ---- none visible
 

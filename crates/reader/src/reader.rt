@@ -2,11 +2,12 @@
 ghost use Prim.Native.Nat.{_≤_, _<_};
 ghost use mathlib.Core.Path.{_≡_};
 ghost use mathlib.Core.List.{map};
-ghost use lib.ListN.{length, take};
+ghost use lib.ListN.{length, getD, take};
 ghost use Rattle.page_numbers.specs.Outcome.{refused};
 ghost use Rattle.page_meaning.specs.Limits.{mostTables, mostColumns, mostTokens, limits};
+ghost use Rattle.page_questions.specs.Layout.{versionBy};
 ghost use Rattle.page_questions.specs.Reader.{ending, fromChange, fromCondition, fromVisible, fromColumns, fromWidths, fromChanged, fromKind, fromTables, fromVersion};
-ghost use Rattle.question.specs.Held.{Reads, ShapeHeld, ChangeHeld, questionOf, widthsOf, columnOf, conditionOf};
+ghost use Rattle.question.specs.Held.{Reads, ShapeHeld, ChangeHeld, versionOf, questionOf, widthsOf, columnOf, conditionOf};
 use changes::change::change_at;
 use changes::change::no_change;
 use fields::fields::ByteRead;
@@ -21,6 +22,7 @@ use question::types::Condition;
 use question::types::Question;
 use question::types::Reading;
 use question::types::Shape;
+use question::types::Version;
 use tables::columns::columns_at;
 use tables::columns::some_visible;
 use tables::widths::shape_of;
@@ -35,6 +37,7 @@ pub fn refusal(n: u8, at: usize) -> Reading
     Reading {
         answer: Answer::Refused(n, at),
         question: Question {
+            version: Version::One,
             shape: Shape {
                 tables: 0,
                 changed: 0,
@@ -54,9 +57,25 @@ pub fn refusal(n: u8, at: usize) -> Reading
     }
 }
 
+// The version of a question that was read. Its first byte is enough: `from_version` has refused a string that is too short to
+// have one, and a version whose second byte is not 0 (FORMAT 3.2).
+fn version_of(s: &[u8]) -> Version
+    ensures { λ r. ⌜ versionOf r ≡ versionBy (getD (now (s .entry)) 3 0) ⌝ }
+{
+    if s.len() < 4 {
+        return Version::One;
+    }
+    if s[3] == 2 {
+        Version::Two
+    } else {
+        Version::One
+    }
+}
+
 // No byte may follow the end.
 fn ended(
     s: &[u8],
+    version: Version,
     shape: Shape,
     columns: [Column; COLUMNS],
     condition: Condition,
@@ -66,7 +85,7 @@ fn ended(
     requires { ⌜ ShapeHeld shape ⌝ }
     requires { ⌜ condition .count ≤ mostTokens ⌝ }
     requires { ⌜ ChangeHeld change ⌝ }
-    ensures { λ r. ⌜ Reads r (ending (now (s .entry)) (questionOf (record { shape = shape; columns = columns; condition = condition; change = change })) p) ⌝ }
+    ensures { λ r. ⌜ Reads r (ending (now (s .entry)) (questionOf (record { version = version; shape = shape; columns = columns; condition = condition; change = change })) p) ⌝ }
 {
     if p < s.len() {
         return refusal(9, p);
@@ -74,6 +93,7 @@ fn ended(
     Reading {
         answer: Answer::Good,
         question: Question {
+            version: version,
             shape: shape,
             columns: columns,
             condition: condition,
@@ -99,7 +119,10 @@ fn from_change(
     let answer = read.answer;
     let change = read.change;
     match answer {
-        Answer::Good => ended(s, shape, columns, condition, change, read.next),
+        Answer::Good => {
+            let version = version_of(s);
+            ended(s, version, shape, columns, condition, change, read.next)
+        }
         Answer::Refused(n, at) => refusal(n, at),
     }
 }
@@ -198,7 +221,11 @@ pub fn from_version(s: &[u8]) -> Reading
     if s.len() < 5 {
         return refusal(1, 3);
     }
-    if s[3] as usize + 256 * (s[4] as usize) != 1 {
+    let version = s[3] as usize + 256 * (s[4] as usize);
+    if version < 1 {
+        return refusal(3, 3);
+    }
+    if version > 2 {
         return refusal(3, 3);
     }
     from_tables(s, 5)
