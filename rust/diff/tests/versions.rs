@@ -27,3 +27,8 @@ fn a_modify_that_keeps_all() {
 fn sheets_of_the_other_version() {
     hold(&versions::crossed());
 }
+
+#[test]
+fn a_second_row_out_of_range() {
+    hold(&versions::second_row_out_of_range());
+}

@@ -40,6 +40,11 @@ fn sheets_of_the_other_version() {
     hold(&versions::crossed());
 }
 
+#[test]
+fn a_second_row_out_of_range() {
+    hold(&versions::second_row_out_of_range());
+}
+
 /// Both sheets in version 1, then in version 2, as far as there is room.
 fn sheets(question: &Question) -> [[Vec<u8>; 2]; 2] {
     VERSIONS.map(|version| {

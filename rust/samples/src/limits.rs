@@ -7,7 +7,7 @@ use oracle::encode;
 use oracle::rules::question::*;
 
 pub(crate) const YES: &str = "0 0 0";
-const NO: &str = "0 1 0";
+pub(crate) const NO: &str = "0 1 0";
 
 /// The greatest value of every column; the least is 0.
 const HIGH: i32 = 99;

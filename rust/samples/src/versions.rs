@@ -2,7 +2,7 @@
 
 use crate::examples::twelve;
 use crate::hex;
-use crate::limits::{plain, sheet, YES};
+use crate::limits::{plain, sheet, NO, YES};
 use crate::recorded::{Ask, Recorded};
 use oracle::encode;
 use oracle::rules::question::*;
@@ -62,25 +62,45 @@ pub fn kept() -> Ask {
 
 /// Sheets of case k that are right in one version are wrong in the other. A sheet's own version is 1 in both.
 pub fn crossed() -> Vec<Recorded> {
-    let [one, two] = VERSIONS.map(|version| hex(&case("k", version)));
-    let check = |asked, question: &str, sheet: &[u8]| format!("check {asked} {question} {}", hex(sheet));
+    let [one, two] = VERSIONS.map(|version| case("k", version));
     // M fails, and no visible column changes: that is all in version 1, and a tree is lacking in version 2
     let irrelevant = sheet(1, 0, &[&NONE_IN_RANGE[..], &NONE_IN_RANGE, &[1]].concat());
     let mut renumbered = relevant();
     renumbered[3] = 2;
     vec![
-        Recorded::new(check(1, &one, &irrelevant), YES),
-        Recorded::new(check(1, &two, &irrelevant), "11 255 28"),
+        check(1, &one, &irrelevant, YES),
+        check(1, &two, &irrelevant, "11 255 28"),
         // version 1 has no fourth formula
-        Recorded::new(check(1, &one, &relevant()), "14 255 7"),
+        check(1, &one, &relevant(), "14 255 7"),
         // and S1 isn't false where V − 40 ≥ 0 is: the 14th byte of the second tree, which starts at 17
-        Recorded::new(check(2, &one, &computable()), "15 255 30"),
-        Recorded::new(check(1, &two, &renumbered), "13 255 3"),
+        check(2, &one, &computable(), "15 255 30"),
+        check(1, &two, &renumbered, "13 255 3"),
     ]
+}
+
+/// K, up to 9 and visible, becomes V, which is hidden and up to 99. Of two rows that show 9 and have 5 and 30
+/// for V the second stays in version 1, and the last formula is true; in version 2 it goes, and the second
+/// formula is.
+pub fn second_row_out_of_range() -> Vec<Recorded> {
+    let mut question = plain(&[2]);
+    question.columns[0].hi = 9;
+    question.columns[1].visible = false;
+    question.change = Change::Modify(Vec::new(), vec![Mode::Become(Side::Column(1, 0)), Mode::Keep]);
+    let rows = [9_i32, 5, 9, 30].map(i32::to_le_bytes).concat();
+    let answers = [(1, 1, "15 255 7"), (1, 3, NO), (2, 1, NO), (2, 3, "15 255 7")];
+    let recorded = |(version, formula, answer)| {
+        let question = encode(&Question { version, ..question.clone() });
+        check(2, &question, &sheet(2, 1, &[&[formula], &rows[..]].concat()), answer)
+    };
+    answers.map(recorded).into()
 }
 
 /// One of the twelve cases, in any version.
 fn case(name: &str, version: u16) -> Vec<u8> {
     let found = twelve().into_iter().find(|example| example.name == name);
     encode(&Question { version, ..found.expect("one of twelve").question })
+}
+
+fn check(asked: u8, question: &[u8], sheet: &[u8], answer: &str) -> Recorded {
+    Recorded::new(format!("check {asked} {} {}", hex(question), hex(sheet)), answer)
 }
