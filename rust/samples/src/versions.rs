@@ -41,8 +41,8 @@ fn relevant() -> Vec<u8> {
 }
 
 /// Nothing enters. Of what is listed nothing stays: after the six places of C1 and C2, S1 has V ≥ 10 as false
-/// or V − 40 ≥ 0 as true, and either closes a cycle. The last two formulas want a visible column to differ, and
-/// only V, a hidden one, changes.
+/// or V − 40 ≥ 0 as true, and either closes a cycle. The last two formulas want a visible column to differ,
+/// and only V, a hidden one, changes.
 fn computable() -> Vec<u8> {
     let cycle = [2, 2, 0, 2];
     let stays = [&[3; 9][..], &cycle, &[1, 1], &cycle, &[1; 6]].concat();

@@ -1,6 +1,7 @@
 //! Prints the twelve cases in both versions, the shortcuts and the published examples, one a line: name,
 //! question in hexadecimal, the report's verdicts, the right ones. With the word `table`: the published
-//! examples as the rows of a Markdown table. With the word `lines`: as lines that the program `published` reads.
+//! examples as the rows of a Markdown table. With the word `lines`: as lines that the program `published`
+//! reads.
 
 use oracle::encode;
 use samples::examples::{published, shortcuts, twelve, twelve_of_version_2};
