@@ -4,7 +4,8 @@ use crate::library;
 use oracle::contents::{all_contents, computable, irrelevant};
 use oracle::rules::sheet::{work, Worked};
 use oracle::{encode, read, Question, Refusal, Verdict};
-use samples::{changed, damaged, hard, hex, misfit, other_sheet, overlong_sheet, question, tiny, Chance};
+use samples::{changed, damaged, hard, hex, misfit, question, tiny, tiny_shift, Chance};
+use samples::{other_sheet, overlong_sheet};
 use std::collections::BTreeMap;
 
 /// What was put to both, counted.
@@ -60,7 +61,7 @@ pub fn hard_round(chance: &mut Chance, most_room: usize, tally: &mut Tally) -> R
 
 /// A tiny question against the definitions over contents, all small contents being tried.
 pub fn brute(chance: &mut Chance, tally: &mut Tally) -> Result<(), Difference> {
-    let question = tiny(chance);
+    let question = if chance.once_in(4) { tiny_shift(chance) } else { tiny(chance) };
     let bytes = encode(&question);
     let all = all_contents(&question, 4);
     let right = [irrelevant(&question, &all), computable(&question, &all)];

@@ -1,4 +1,4 @@
-//! What the benchmark asks.
+//! What the benchmark asks: questions of version 1.
 
 use crate::smt::script;
 use oracle::rules::question::{MOST_COLUMNS, MOST_TABLES};
@@ -6,7 +6,7 @@ use oracle::rules::sheet::{work, Worked};
 use oracle::rules::trouble::trouble;
 use oracle::{encode, Question, Verdict};
 use samples::recorded::ASK_ROOM;
-use samples::{examples, hard_within, question, question_within, sized, Bounds, Chance};
+use samples::{examples, hard_within, question_of_version_1, question_within, sized, Bounds, Chance};
 
 /// One question as it is asked, with what is known of it.
 pub struct Asked {
@@ -100,7 +100,7 @@ fn twelve_columns() -> Vec<Asked> {
     let mut chance = Chance::new(25);
     let mut questions = Vec::new();
     while questions.len() < 1_000 {
-        let question = question(&mut chance);
+        let question = question_of_version_1(&mut chance);
         if question.columns.len() == MOST_COLUMNS {
             ask(&question, &mut questions);
         }

@@ -4,7 +4,7 @@ use diff::comparison::{accepted, brute, round, Tally};
 use diff::{library, on_promised_stack, rounds};
 use oracle::rules::question::MOST_COLUMNS;
 use oracle::{encode, Question, Verdict};
-use samples::examples::{published, twelve};
+use samples::examples::{published, twelve, twelve_of_version_2};
 use samples::{deepest, Chance};
 
 /// The most room for a sheet: longer ones are compared as far as they fit.
@@ -65,7 +65,7 @@ fn whole(name: &str, question: &Question) -> String {
 #[test]
 fn cases_and_published_examples() {
     on_promised_stack(|| {
-        for example in twelve().into_iter().chain(published()) {
+        for example in [twelve(), twelve_of_version_2(), published()].into_iter().flatten() {
             assert_eq!(whole(&example.name, &example.question), example.right, "{}", example.name);
         }
     });

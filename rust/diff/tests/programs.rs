@@ -3,7 +3,7 @@
 use diff::machine::command;
 use oracle::encode;
 use samples::recorded::{asks, hard_asks, Ask};
-use samples::{hex, limits};
+use samples::{hex, limits, versions};
 use std::io::Write;
 use std::path::{Path, PathBuf};
 use std::process::Stdio;
@@ -53,12 +53,20 @@ fn ask_reads_the_longest_question() {
     assert_eq!(run("ask", &[], &question), "refused 9 369\n");
 }
 
-/// Every fourth one and the longest, through files.
+#[test]
+fn ask_goes_by_the_version() {
+    for Ask { question, printed, .. } in versions::refused().into_iter().chain([versions::case_k()]) {
+        assert_eq!(run("ask", &[], &question), printed, "{}", hex(&question));
+    }
+}
+
+/// Every fourth one, the longest and one of version 2, through files.
 #[test]
 fn sheets_are_written_and_pass() {
     let folder = PathBuf::from(env!("CARGO_TARGET_TMPDIR"));
     let (asked_of, sheet_of) = (folder.join("question"), folder.join("sheet"));
-    for Ask { question, printed, sheets } in asks().into_iter().step_by(4).chain([longest()]) {
+    let more = [longest(), versions::case_k()];
+    for Ask { question, printed, sheets } in asks().into_iter().step_by(4).chain(more) {
         for (at, word) in ["irrelevant", "computable"].iter().enumerate() {
             let Some(sheet) = &sheets[at] else { continue };
             std::fs::write(&asked_of, &question).expect("a file");

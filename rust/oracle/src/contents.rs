@@ -77,18 +77,18 @@ pub fn after(question: &Question, contents: &Contents) -> Contents {
         Change::Delete(d) => table.retain(|row| !meets(d, |column| row[column - first])),
         Change::Modify(condition, modes) => {
             let new = |row: &Row| replaced(question, condition, modes, row);
-            *table = table.iter().map(new).collect();
+            *table = table.iter().filter_map(new).collect();
         }
     }
     contents
 }
 
-/// What becomes of one row of the changed table.
-fn replaced(question: &Question, condition: &[Token], modes: &[Mode], row: &Row) -> Row {
+/// What becomes of one row of the changed table; nothing if it is retired.
+fn replaced(question: &Question, condition: &[Token], modes: &[Mode], row: &Row) -> Option<Row> {
     let own = question.changed_columns();
     let value = |column: usize| row[column - own.start];
     if !meets(condition, value) {
-        return row.clone();
+        return Some(row.clone());
     }
     let mut new = Vec::new();
     for (column, mode) in own.clone().zip(modes) {
@@ -99,10 +99,10 @@ fn replaced(question: &Question, condition: &[Token], modes: &[Mode], row: &Row)
         let Column { lo, hi, .. } = question.columns[column];
         match i32::try_from(becomes) {
             Ok(fits) if (lo..=hi).contains(&fits) => new.push(fits),
-            _ => return row.clone(),
+            _ => return (!question.retires()).then(|| row.clone()),
         }
     }
-    new
+    Some(new)
 }
 
 /// Whether the change leaves the list of each of these contents as it is.

@@ -2,13 +2,18 @@
 
 use oracle::rules::sheet::values_in;
 use oracle::rules::trouble::trouble;
-use oracle::{check, encode, read, verdict, write, Refusal, Verdict};
-use samples::examples::{shortcuts, twelve};
+use oracle::{check, encode, read, verdict, write, Question, Refusal, Verdict};
+use samples::examples::{shortcuts, twelve, twelve_of_version_2, Example};
 use samples::recorded::calls;
 use samples::{deepest, hex};
 
+/// The twelve cases in version 1, then in version 2.
+fn cases() -> impl Iterator<Item = Example> {
+    twelve().into_iter().chain(twelve_of_version_2())
+}
+
 fn case(name: &str) -> Vec<u8> {
-    let found = twelve().into_iter().find(|example| example.name == name);
+    let found = cases().find(|example| example.name == name);
     encode(&found.expect("one of twelve").question)
 }
 
@@ -29,7 +34,7 @@ fn rows(name: &str, asked: u8) -> Vec<i32> {
 
 #[test]
 fn twelve_verdicts() {
-    for example in twelve() {
+    for example in cases() {
         let bytes = encode(&example.question);
         assert_eq!(read(&bytes), Ok(example.question.clone()));
         let said = [1, 2].map(|asked| word(&bytes, asked)).join("/");
@@ -45,6 +50,9 @@ fn twelve_witnesses() {
     assert_eq!(rows("i", 1), [9, 9, 9, 9]);
     assert_eq!(rows("j", 1), [9, 17, 9, 9]);
     assert_eq!(rows("j", 2), [9, 30, 9, 9, 9, 17, 9, 9]);
+    assert_eq!(rows("h, version 2", 1), [9, 30, 9, 9]);
+    assert_eq!(rows("h, version 2", 2), [9, 25, 9, 9, 9, 30, 9, 9]);
+    assert_eq!(rows("k, version 2", 1), [9, 30, 9, 9]);
 }
 
 /// The recorded calls on case a are on the question that stands here as text.
@@ -79,7 +87,7 @@ fn asked_comes_first() {
 #[test]
 fn rooms_of_every_length() {
     for asked in [1, 2] {
-        for example in twelve() {
+        for example in cases() {
             let bytes = encode(&example.question);
             let whole = sheet(&bytes, asked);
             for length in 0..whole.len() + 5 {
@@ -98,11 +106,11 @@ fn rooms_of_every_length() {
     }
 }
 
-/// Eight columns make 120 places at most, and twelve 144: no question has a longer path.
+/// Eight columns make 120 places at most, and twelve 144, in either version: no question has a longer path.
 #[test]
 fn a_path_of_144_decisions() {
-    for (columns, most) in [(8, 120), (12, 144)] {
-        let question = deepest(columns);
+    for (version, columns, most) in [(1, 8, 120), (1, 12, 144), (2, 8, 120), (2, 12, 144)] {
+        let question = Question { version, ..deepest(columns) };
         let places = trouble(&question, 2).into_iter().map(|formula| formula.places.len());
         assert_eq!(places.max(), Some(most));
         let bytes = encode(&question);

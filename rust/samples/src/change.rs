@@ -3,7 +3,8 @@
 use crate::Chance;
 use oracle::rules::question::*;
 
-/// The question with one to three things changed: constants, operators, joins, columns, modes, ranges.
+/// The question with one to three things changed: constants, operators, joins, columns, modes, ranges,
+/// the version.
 pub fn changed(chance: &mut Chance, question: &Question) -> Question {
     let mut question = question.clone();
     for _ in 0..chance.among(&[1, 1, 2, 3]) {
@@ -15,7 +16,7 @@ pub fn changed(chance: &mut Chance, question: &Question) -> Question {
 fn one_thing(chance: &mut Chance, question: &mut Question) {
     let own = question.changed_columns();
     let all = 0..question.columns.len();
-    match (chance.below(6), &mut question.change) {
+    match (chance.below(7), &mut question.change) {
         (0, change) if !matches!(change, Change::Insert(_)) => range(chance, &mut question.columns),
         (1, _) => shown(chance, &mut question.columns),
         (2, Change::Modify(_, modes)) => {
@@ -29,6 +30,7 @@ fn one_thing(chance: &mut Chance, question: &mut Question) {
         (3, Change::Modify(condition, _) | Change::Delete(condition)) => token(chance, condition, &own),
         (4, Change::Modify(condition, _) | Change::Delete(condition)) => negation(chance, condition),
         (5, _) => negation(chance, &mut question.condition),
+        (6, _) => question.version = chance.among(&VERSIONS),
         _ => token(chance, &mut question.condition, &all),
     }
 }

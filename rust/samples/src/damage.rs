@@ -1,5 +1,6 @@
 //! Damaged bytes: cut, lengthened, or with wrong values in places.
 
+use crate::versions::NO_VERSIONS;
 use crate::Chance;
 use oracle::encode;
 use oracle::rules::question::*;
@@ -73,7 +74,7 @@ pub fn misfit(chance: &mut Chance, question: &Question) -> Vec<u8> {
     let mut question = question.clone();
     let column = chance.below(question.columns.len());
     let edge = chance.among(&EDGES);
-    match chance.below(11) {
+    match chance.below(12) {
         0 => question.columns[column].lo = edge,
         1 => question.columns[column].hi = edge,
         2 => question.columns.iter_mut().for_each(|column| column.visible = false),
@@ -81,6 +82,7 @@ pub fn misfit(chance: &mut Chance, question: &Question) -> Vec<u8> {
         4 => question.widths.push(chance.below(4)),
         5 => spoil(chance, &mut question.condition, edge),
         6 => crowd(chance, &mut question),
+        7 => question.version = chance.among(&NO_VERSIONS),
         _ => match &mut question.change {
             Change::Insert(rows) => {
                 rows.push(vec![edge; question.widths[question.changed]]);

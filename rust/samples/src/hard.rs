@@ -1,6 +1,7 @@
 //! Questions that are hard for a search which splits cases before it looks: one table, six comparisons
 //! of columns a condition, and a modify that shifts columns.
 
+use crate::questions::of_either_version;
 use crate::Chance;
 use oracle::rules::question::*;
 
@@ -13,14 +14,15 @@ const KINDS: [&[Op]; 5] = [
     &OPS,
 ];
 
-/// A hard question of at most 8 columns, or of at most as many as there can be.
+/// A hard question of either version, of at most 8 columns or of at most as many as there can be.
 pub fn hard(chance: &mut Chance) -> Question {
     let most = chance.among(&[8, MOST_COLUMNS]);
-    hard_within(chance, most)
+    let question = hard_within(chance, most);
+    of_either_version(chance, question)
 }
 
-/// A hard question of half, three quarters or mostly all of these columns: the operators, the ranges,
-/// how the comparisons are joined and what the change does vary too.
+/// A hard question of version 1, of half, three quarters or mostly all of these columns: the operators, the
+/// ranges, how the comparisons are joined and what the change does vary too.
 pub fn hard_within(chance: &mut Chance, most: usize) -> Question {
     let count = chance.among(&[most / 2, most * 3 / 4, most, most, most]);
     let kind = chance.among(&KINDS);
@@ -31,7 +33,7 @@ pub fn hard_within(chance: &mut Chance, most: usize) -> Question {
         0 => Change::Delete(rows),
         _ => Change::Modify(rows, shifts(chance, count)),
     };
-    Question { widths: vec![count], changed: 0, columns, condition, change }
+    Question { version: 1, widths: vec![count], changed: 0, columns, condition, change }
 }
 
 /// Small ranges, or for one question in eight the widest; mostly with one visible column.

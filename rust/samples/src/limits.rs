@@ -6,8 +6,8 @@ use crate::recorded::Recorded;
 use oracle::encode;
 use oracle::rules::question::*;
 
-const YES: &str = "0 0 0";
-const NO: &str = "0 1 0";
+pub(crate) const YES: &str = "0 0 0";
+pub(crate) const NO: &str = "0 1 0";
 
 /// The greatest value of every column; the least is 0.
 const HIGH: i32 = 99;
@@ -136,8 +136,9 @@ pub fn longest_no_sheet() -> Vec<Recorded> {
 }
 
 /// The insert of no row, where all columns are visible and every full row is listed.
-fn plain(widths: &[usize]) -> Question {
+pub(crate) fn plain(widths: &[usize]) -> Question {
     Question {
+        version: 1,
         widths: widths.to_vec(),
         changed: 0,
         columns: vec![Column { lo: 0, hi: HIGH, visible: true }; widths.iter().sum()],
@@ -177,6 +178,6 @@ fn check(asked: u8, question: &Question, nodes: &[u8]) -> String {
 }
 
 /// A sheet: mark, version, what is asked, the verdict byte, and what follows.
-fn sheet(asked: u8, verdict: u8, rest: &[u8]) -> Vec<u8> {
+pub(crate) fn sheet(asked: u8, verdict: u8, rest: &[u8]) -> Vec<u8> {
     [b"VUS\x01\x00", &[asked, verdict][..], rest].concat()
 }

@@ -1,4 +1,5 @@
-//! Sound questions of every shape.
+//! Sound questions of every shape. What the benchmark draws is of version 1, and nothing is drawn for that:
+//! its loads stay what they were when there was no other version.
 
 use crate::Chance;
 use oracle::rules::question::*;
@@ -15,14 +16,25 @@ pub struct Bounds {
     pub shown: usize,
 }
 
-/// A question within all limits; some are at the limits. One in four hides nearly all its columns, so
-/// that formulas of two rows have nearly as many vertices as there can be.
+/// A question of either version within all limits.
 pub fn question(chance: &mut Chance) -> Question {
+    let question = question_of_version_1(chance);
+    of_either_version(chance, question)
+}
+
+/// The question, made one of either version.
+pub(crate) fn of_either_version(chance: &mut Chance, question: Question) -> Question {
+    Question { version: chance.among(&VERSIONS), ..question }
+}
+
+/// A question of version 1 within all limits; some are at the limits. One in four hides nearly all its
+/// columns, so that formulas of two rows have nearly as many vertices as there can be.
+pub fn question_of_version_1(chance: &mut Chance) -> Question {
     let shown = chance.among(&[2, 2, 2, 12]);
     question_within(chance, &Bounds { tables: MOST_TABLES, columns: MOST_COLUMNS, shown })
 }
 
-/// A question within these bounds.
+/// A question of version 1 within these bounds.
 pub fn question_within(chance: &mut Chance, bounds: &Bounds) -> Question {
     let widths = widths(chance, bounds);
     let columns = columns(chance, widths.iter().sum(), bounds.shown);
@@ -30,7 +42,7 @@ pub fn question_within(chance: &mut Chance, bounds: &Bounds) -> Question {
     finish(chance, widths, columns, counts)
 }
 
-/// A question over this many columns, with this many comparisons in each of its conditions.
+/// A question of version 1 over this many columns, with this many comparisons in each of its conditions.
 pub fn sized(chance: &mut Chance, count: usize, comparisons: usize) -> Question {
     let widths = match count {
         1 => vec![1],
@@ -40,8 +52,8 @@ pub fn sized(chance: &mut Chance, count: usize, comparisons: usize) -> Question 
     finish(chance, widths, columns, [comparisons; 2])
 }
 
-/// A question over one or two tables, two or three columns and a few values, for which all contents
-/// can be tried.
+/// A question of either version over one or two tables, one to three columns and a few values, for which
+/// all contents can be tried.
 pub fn tiny(chance: &mut Chance) -> Question {
     let widths = chance.among(&[&[1][..], &[2], &[2], &[3], &[1, 1], &[1, 2], &[2, 1]]).to_vec();
     let mut columns = Vec::new();
@@ -54,17 +66,34 @@ pub fn tiny(chance: &mut Chance) -> Question {
     let shown = chance.below(columns.len());
     columns[shown].visible = true;
     let counts = [0, 1].map(|_| chance.below(4));
-    finish(chance, widths, columns, counts)
+    let question = finish(chance, widths, columns, counts);
+    of_either_version(chance, question)
 }
 
-/// A question over so many columns with a formula of the most places that there can be, and a path
-/// through all of them: every comparison sets a column against itself. With 12 columns there are 144.
+/// A question as tiny: a modify that shifts a hidden column, by which rows leave the range, the list or both.
+pub fn tiny_shift(chance: &mut Chance) -> Question {
+    let hidden = Column { lo: 0, hi: chance.between(2, 3), visible: false };
+    let shown = Column { lo: 0, hi: 1, visible: true };
+    let widths = chance.among(&[&[2][..], &[1, 1]]).to_vec();
+    let counts = [1, 0].map(|least| least + chance.below(2));
+    let mut question = finish(chance, widths, vec![hidden, shown], counts);
+    question.changed = 0;
+    let own = question.changed_columns();
+    let mut modes = vec![Mode::Keep; own.len()];
+    modes[0] = Mode::Become(Side::Column(0, chance.among(&[-3, -2, -1, 1, 2, 3])));
+    question.change = Change::Modify(condition(chance, &question.columns, own, counts[1]), modes);
+    of_either_version(chance, question)
+}
+
+/// A question of version 1 over so many columns with a formula of the most places that there can be, and a
+/// path through all of them: every comparison sets a column against itself. With 12 columns there are 144.
 pub fn deepest(columns: usize) -> Question {
     let column = Column { lo: 0, hi: 1, visible: true };
     let mut all = vec![Token::Compare(Op::Equal, 0, Side::Column(0, 0)); MOST_COMPARISONS];
     all.extend([Token::And; MOST_COMPARISONS - 1]);
     let modes = (0..columns).map(|column| Mode::Become(Side::Column(column, 0)));
     Question {
+        version: 1,
         widths: vec![columns],
         changed: 0,
         columns: vec![column; columns],
@@ -80,8 +109,14 @@ fn finish(
     comparisons: [usize; 2],
 ) -> Question {
     let changed = chance.below(widths.len());
-    let mut question =
-        Question { widths, changed, columns, condition: Vec::new(), change: Change::Insert(Vec::new()) };
+    let mut question = Question {
+        version: 1,
+        widths,
+        changed,
+        columns,
+        condition: Vec::new(),
+        change: Change::Insert(Vec::new()),
+    };
     question.condition = condition(chance, &question.columns, 0..question.columns.len(), comparisons[0]);
     question.change = change(chance, &question, comparisons[1]);
     question

@@ -52,6 +52,7 @@ fn chain(columns: usize, length: usize) -> Question {
         condition.extend((at > 1).then_some(Token::And));
     }
     Question {
+        version: 1,
         widths: vec![columns],
         changed: 0,
         columns: (0..columns).map(column).collect(),

@@ -126,26 +126,53 @@ impl<'a> Draft<'a> {
         self.c(&after)
     }
 
-    /// M: the modify's condition, then new ≤ hi and new ≥ lo for each column not kept.
-    pub fn m(&mut self, sight: &Sight) -> Part {
-        let question = self.question;
-        let condition = match &question.change {
+    /// The modify's condition.
+    pub fn selected(&mut self, sight: &Sight) -> Part {
+        let condition = match &self.question.change {
             Change::Modify(condition, _) => condition.as_slice(),
             _ => &[],
         };
-        let mut parts = vec![self.condition(condition, sight)];
+        self.condition(condition, sight)
+    }
+
+    /// New ≤ hi and new ≥ lo for each column not kept.
+    fn range_tests(&mut self, sight: &Sight) -> Vec<Part> {
         let after = self.after(sight);
+        let mut tests = Vec::new();
         for column in self.not_kept() {
-            let Column { lo, hi, .. } = question.columns[column];
-            parts.push(self.compare(Op::AtMost, after[column], constant(hi)));
-            parts.push(self.compare(Op::AtLeast, after[column], constant(lo)));
+            let Column { lo, hi, .. } = self.question.columns[column];
+            tests.push(self.compare(Op::AtMost, after[column], constant(hi)));
+            tests.push(self.compare(Op::AtLeast, after[column], constant(lo)));
         }
+        tests
+    }
+
+    /// That every new value is in range.
+    pub fn in_range(&mut self, sight: &Sight) -> Part {
+        Part::All(self.range_tests(sight))
+    }
+
+    /// M: selected, then every new value in range.
+    pub fn m(&mut self, sight: &Sight) -> Part {
+        let mut parts = vec![self.selected(sight)];
+        parts.extend(self.range_tests(sight));
         Part::All(parts)
     }
 
-    /// S: not M, or C after F.
+    /// That the row stays as it was: not M; where rows are retired, not selected.
+    pub fn kept(&mut self, sight: &Sight) -> Part {
+        not(if self.question.retires() { self.selected(sight) } else { self.m(sight) })
+    }
+
+    /// S: kept, or C after F; where rows are retired, kept, or all in range and C after F.
     pub fn s(&mut self, sight: &Sight) -> Part {
-        Part::Any(vec![not(self.m(sight)), self.c_after(sight)])
+        let kept = self.kept(sight);
+        let listed = if self.question.retires() {
+            Part::All(vec![self.in_range(sight), self.c_after(sight)])
+        } else {
+            self.c_after(sight)
+        };
+        Part::Any(vec![kept, listed])
     }
 
     /// Some visible column not kept differs between two sights.

@@ -9,7 +9,8 @@ pub fn encode(question: &Question) -> Vec<u8> {
         Change::Delete(condition) => (2, tokens(condition)),
         Change::Modify(condition, modes) => (3, modify(condition, modes)),
     };
-    let mut bytes = b"VUQ\x01\x00".to_vec();
+    let mut bytes = b"VUQ".to_vec();
+    bytes.extend(question.version.to_le_bytes());
     bytes.extend([question.widths.len() as u8, kind, question.changed as u8]);
     bytes.extend(question.widths.iter().map(|&width| width as u8));
     for column in &question.columns {

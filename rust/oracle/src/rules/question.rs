@@ -1,5 +1,7 @@
 //! A question as values: a list definition and one change.
 
+/// The versions that a question can have.
+pub const VERSIONS: [u16; 2] = [1, 2];
 /// Most tables of a list definition.
 pub const MOST_TABLES: usize = 6;
 /// Most columns, all tables together.
@@ -105,13 +107,16 @@ pub enum Change {
     Insert(Vec<Vec<i32>>),
     /// Removes the rows that meet the condition.
     Delete(Condition),
-    /// Replaces the rows that meet the condition; one mode for each column of the changed table.
+    /// Replaces the rows that meet the condition and whose new values are all in range; one mode for each
+    /// column of the changed table.
     Modify(Condition, Vec<Mode>),
 }
 
 /// A list definition and one change.
 #[derive(Clone, Debug, PartialEq, Eq)]
 pub struct Question {
+    /// Its version.
+    pub version: u16,
     /// Each table's column count.
     pub widths: Vec<usize>,
     /// The number of the changed table.
@@ -125,6 +130,11 @@ pub struct Question {
 }
 
 impl Question {
+    /// Whether a selected row with a new value out of range goes; in version 1 it stays as it was.
+    pub fn retires(&self) -> bool {
+        self.version >= 2
+    }
+
     /// The column numbers of one table.
     pub fn columns_of(&self, table: usize) -> std::ops::Range<usize> {
         let first = self.widths[..table].iter().sum();

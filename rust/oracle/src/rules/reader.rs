@@ -9,15 +9,16 @@ pub fn read(bytes: &[u8]) -> Result<Question, Refusal> {
     let mut fields = Fields::new(bytes, 1);
     let mark = fields.take::<3>()?;
     fields.expect(mark == *b"VUQ", 2)?;
-    let version = fields.take::<2>()?;
-    fields.expect(version == [1, 0], 3)?;
+    let version = u16::from_le_bytes(fields.take()?);
+    fields.expect(VERSIONS.contains(&version), 3)?;
     let tables = fields.within(1, MOST_TABLES as u8, 4)?;
     let kind = fields.within(1, 3, 4)?;
     let changed = usize::from(fields.within(0, tables - 1, 4)?);
     let widths = read_widths(&mut fields, tables)?;
     let columns = read_columns(&mut fields, widths.iter().sum())?;
     let condition = read_condition(&mut fields, 0..columns.len())?;
-    let mut question = Question { widths, changed, columns, condition, change: Change::Insert(Vec::new()) };
+    let change = Change::Insert(Vec::new());
+    let mut question = Question { version, widths, changed, columns, condition, change };
     question.change = read_change(&mut fields, kind, &question)?;
     if !fields.at_end() {
         return refuse(9, fields.next);

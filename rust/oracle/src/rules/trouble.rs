@@ -12,7 +12,11 @@ pub fn trouble(question: &Question, asked: u8) -> Vec<Formula> {
         (Change::Insert(rows), _) => rows.iter().map(|row| inserted(question, row)).collect(),
         (Change::Delete(d), 1) => vec![deleted(question, d)],
         (Change::Delete(d), _) => vec![deleted_pair(question, d)],
-        (Change::Modify(..), 1) => vec![leaves(question), enters(question), moves(question)],
+        (Change::Modify(..), 1) => {
+            let mut all = vec![leaves(question), enters(question), moves(question)];
+            all.extend(question.retires().then(|| retired(question)));
+            all
+        }
         (Change::Modify(..), _) => {
             vec![enters(question), stays_or_goes(question), part_ways(question), parts_from_kept(question)]
         }
@@ -73,6 +77,14 @@ fn moves(question: &Question) -> Formula {
     draft.done(parts, false)
 }
 
+/// Selected and C and some new value out of range.
+fn retired(question: &Question) -> Formula {
+    let mut draft = Draft::new(question);
+    let row = draft.first();
+    let parts = vec![draft.selected(&row), draft.c(&row), not(draft.in_range(&row))];
+    draft.done(parts, false)
+}
+
 /// C1, C2, S1, not S2.
 fn stays_or_goes(question: &Question) -> Formula {
     let mut draft = Draft::new(question);
@@ -98,7 +110,7 @@ fn part_ways(question: &Question) -> Formula {
     draft.done(parts, true)
 }
 
-/// C1, C2, M1, not M2, C1(F), some visible new1 ≠ old2.
+/// C1, C2, M1, row 2 kept, C1(F), some visible new1 ≠ old2.
 fn parts_from_kept(question: &Question) -> Formula {
     let mut draft = Draft::new(question);
     let (one, two) = (draft.first(), draft.second());
@@ -107,7 +119,7 @@ fn parts_from_kept(question: &Question) -> Formula {
         draft.c(&one),
         draft.c(&two),
         draft.m(&one),
-        not(draft.m(&two)),
+        draft.kept(&two),
         draft.c_after(&one),
         draft.differ(&new_one, &two),
     ];

@@ -1,9 +1,10 @@
-//! Prints the twelve cases, the shortcuts and the published examples, one a line: name, question in
-//! hexadecimal, the report's verdicts, the right ones. With the word `table`: the published examples as
-//! the rows of a Markdown table. With the word `lines`: as lines that the program `published` reads.
+//! Prints the twelve cases in both versions, the shortcuts and the published examples, one a line: name,
+//! question in hexadecimal, the report's verdicts, the right ones. With the word `table`: the published
+//! examples as the rows of a Markdown table. With the word `lines`: as lines that the program `published`
+//! reads.
 
 use oracle::encode;
-use samples::examples::{published, shortcuts, twelve};
+use samples::examples::{published, shortcuts, twelve, twelve_of_version_2};
 use samples::hex;
 
 fn main() {
@@ -21,7 +22,7 @@ fn main() {
 }
 
 fn all() {
-    for example in twelve().iter().chain(&shortcuts()).chain(&published()) {
+    for example in [twelve(), twelve_of_version_2(), shortcuts(), published()].iter().flatten() {
         let bytes = hex(&encode(&example.question));
         println!("{}\t{bytes}\t{}\t{}", example.name, example.report, example.right);
     }

@@ -10,7 +10,7 @@ mod twelve;
 pub use load::{load, xyz};
 pub use report_000::report_000;
 pub use report_002::report_002;
-pub use twelve::{shortcuts, twelve};
+pub use twelve::{shortcuts, twelve, twelve_of_version_2};
 
 use crate::hex;
 use oracle::{encode, Question};

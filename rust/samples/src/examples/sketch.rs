@@ -16,6 +16,7 @@ impl Sketch {
     /// The list over these tables with this condition.
     pub fn new(tables: &str, condition: &str) -> Self {
         let question = Question {
+            version: 1,
             widths: Vec::new(),
             changed: 0,
             columns: Vec::new(),

@@ -30,6 +30,22 @@ pub fn twelve() -> Vec<Example> {
     ]
 }
 
+/// The same in version 2. New values leave the range in h, i and k: of what is listed some rows go, in k all.
+/// By other rows i was neither in version 1 already.
+pub fn twelve_of_version_2() -> Vec<Example> {
+    let mut all = twelve();
+    for example in &mut all {
+        example.question.version = 2;
+        example.right = match example.name.as_str() {
+            "h" => "no/no",
+            "k" => "no/yes",
+            _ => example.right,
+        };
+        example.name += ", version 2";
+    }
+    all
+}
+
 /// Beside b, g and k: a hidden column that decides, a range that decides, and a comparison whose
 /// negation must not lose the one that the integers give.
 pub fn shortcuts() -> Vec<Example> {

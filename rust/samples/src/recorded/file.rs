@@ -15,7 +15,8 @@ macro_rules! vectors {
 }
 
 /// Files of calls: call, answer.
-pub(super) const CALLS: [File; 2] = [vectors!("calls.tsv", 15), vectors!("request-13.tsv", 300)];
+pub(super) const CALLS: [File; 3] =
+    [vectors!("calls.tsv", 15), vectors!("request-04.tsv", 300), vectors!("request-13.tsv", 300)];
 
 /// Questions of all sorts, refused ones among them: question, what `ask` prints, both sheets.
 pub(super) const ASKS: File = vectors!("ask.tsv", 400);
