@@ -20,17 +20,16 @@ use Rattle.page_sheets.specs.Trees.{checkTrees}
 use Rattle.page_sheets.specs.Rows.{fixed}
 use Rattle.page_sheets.specs.Sheet.{Verdict, sayYes, sayNo, Answer, checkYes, checkFields, noEnd, checkRows, checkNo, checkSheetUnder}
 use Rattle.page_sheets.specs.Answers.{checkUnder, checkOf}
-use Rattle.page_sheets.specs.Twelve.{Claim, holds, shows, Case, bytesIn, numbers, sheetIn, twelve, agrees, test, testAll, Settled, TwelveSettled}
+use Rattle.page_sheets.specs.Twelve.{Claim, holds, shows, Case, bytesIn, numbers, sheetIn, twelve, retired, agrees, test, testAll, Settled, AllSettled, TwelveSettled, RetiredSettled}
 use mathlib.Core.Logic.{inl, inr}
 use mathlib.Core.Bool.{_&&_}
 use Rattle.page_meaning.proofs.Truth.{and-l, and-r}
-use Rattle.page_questions.specs.Guarantees.{Every}
 use Rattle.page_sheets.specs.Demands.{Askable}
 use Rattle.page_sheets.proofs.Demands.{pass-yes-proves, pass-no-breaks, verdict-by}
 
-pub tested : T (testAll twelve)
-unfolding int32 le32 minZ inRange tighten blank total tablesOf visibleFrom questionFrom many byte int columnAt comparisonAt tokenAt conditionAt rowAt insertAt deleteAt modeAt modifyAt ending fromChange fromCondition fromVisible fromColumns fromWidths fromChanged fromKind fromTables fromVersion readUnder compile among after hiddenRanges boundedAll differsOver tabulate run3 run places confineAll vertices check checkTrees fixed checkYes checkFields noEnd checkRows checkNo checkSheetUnder checkUnder bytesIn numbers twelve testAll
-tested = tt
+pub tested : T (testAll twelve) × T (testAll retired)
+unfolding int32 le32 minZ inRange tighten blank total tablesOf visibleFrom questionFrom many byte int columnAt comparisonAt tokenAt conditionAt rowAt insertAt deleteAt modeAt modifyAt ending fromChange fromCondition fromVisible fromColumns fromWidths fromChanged fromKind fromTables fromVersion readUnder compile among after hiddenRanges boundedAll differsOver tabulate run3 run places confineAll vertices check checkTrees fixed checkYes checkFields noEnd checkRows checkNo checkSheetUnder checkUnder bytesIn numbers twelve retired testAll
+tested = (tt, tt)
 
 -- ---- from the test to the meaning
 says-it : (x : Answer) (v : Verdict) → T (agrees x v) → x ≡ good v
@@ -50,7 +49,7 @@ settled a s (shows i values) h t =
     let m = pass-no-breaks a s (sheetIn a (shows i values)) e in
     record { question = m .0; reads = m .1; verdict = verdict-by a s _ sayNo h e; settles = m .2 }
 
-all-settled : (cs : List Case) → T (testAll cs) → Every (λ c. Settled 1 (c .question) (c .irrelevant) × Settled 2 (c .question) (c .computable)) cs
+all-settled : (cs : List Case) → T (testAll cs) → AllSettled cs
 unfolding testAll
 all-settled [] t = tt
 all-settled (c ∷ cs) t =
@@ -61,4 +60,8 @@ all-settled (c ∷ cs) t =
 
 -- the twelve, as one fact over the table
 pub twelve-settled : TwelveSettled
-twelve-settled = all-settled twelve tested
+twelve-settled = all-settled twelve (tested .0)
+
+-- and the one of version 2
+pub retired-settled : RetiredSettled
+retired-settled = all-settled retired (tested .1)

@@ -1,4 +1,4 @@
--- FORMAT 9.3: the twelve cases. For each its question, its two verdicts, and the sheets that show them.
+-- FORMAT 9.3: the twelve cases, and one of them in version 2. For each its question, its two verdicts, and the sheets that show them.
 use Prim.Native.Nat.{ℕ, zero, suc, _-_, _/_, _%_}
 use mathlib.Core.Path.{_≡_}
 use mathlib.Core.Bool.{Bool, true, false, _&&_}
@@ -32,12 +32,15 @@ against op left k = 1 ∷ op ∷ left ∷ 255 ∷ number k
 abbrev matched : List ℕ
 matched = 1 ∷ 3 ∷ 0 ∷ 3 ∷ number 0
 
--- the question of a change of KEY, by its kind
-abbrev asks : ℕ → List ℕ → List ℕ
-asks kind change =
-    86 ∷ 85 ∷ 81 ∷ 1 ∷ 0 ∷ 2 ∷ kind ∷ 0 ∷ 2 ∷ 2
+-- the question of a change of KEY, by its version and its kind
+abbrev asksIn : ℕ → ℕ → List ℕ → List ℕ
+asksIn version kind change =
+    86 ∷ 85 ∷ 81 ∷ version ∷ 0 ∷ 2 ∷ kind ∷ 0 ∷ 2 ∷ 2
     ∷ column 9 1 ++ column 30 0 ++ column 9 1 ++ column 9 0
     ++ 3 ∷ matched ++ against 4 1 10 ++ 2 ∷ change
+
+abbrev asks : ℕ → List ℕ → List ℕ
+asks kind change = asksIn 1 kind change
 
 -- K keeps its value
 abbrev kept : List ℕ
@@ -118,8 +121,11 @@ abbrev case-j : Case
 case-j = row (asks 3 (1 ∷ against 4 1 10 ++ kept ++ 2 ∷ 1 ∷ minus 8)) (shows 0 (9 ∷ 17 ∷ 9 ∷ 9 ∷ [])) (shows 1 (9 ∷ 30 ∷ 9 ∷ 9 ∷ 9 ∷ 17 ∷ 9 ∷ 9 ∷ []))
 
 -- V := V−40 where V ≥ 10
+abbrev lowered : List ℕ
+lowered = 1 ∷ against 4 1 10 ++ kept ++ 2 ∷ 1 ∷ minus 40
+
 abbrev case-k : Case
-case-k = row (asks 3 (1 ∷ against 4 1 10 ++ kept ++ 2 ∷ 1 ∷ minus 40)) (holds 21 0x030303020200020101010303030202000201010101) (holds 64 0x03030302020002010101030303030303030303020200020303030202000203030302020006010101020201040202010402020002020200020101010101010101)
+case-k = row (asks 3 lowered) (holds 21 0x030303020200020101010303030202000201010101) (holds 64 0x03030302020002010101030303030303030303020200020303030202000203030302020006010101020201040202010402020002020200020101010101010101)
 
 -- V := 7 where V ≥ 10
 abbrev case-l : Case
@@ -127,6 +133,13 @@ case-l = row (asks 3 (1 ∷ against 4 1 10 ++ kept ++ 1 ∷ 255 ∷ number 7)) (
 
 unfoldable pub twelve : List Case
 twelve = case-a ∷ case-b ∷ case-c ∷ case-d ∷ case-e ∷ case-f ∷ case-g ∷ case-h ∷ case-i ∷ case-j ∷ case-k ∷ case-l ∷ []
+
+-- k in version 2: every listed row goes
+abbrev case-k2 : Case
+case-k2 = row (asksIn 2 3 lowered) (shows 3 (9 ∷ 30 ∷ 9 ∷ 9 ∷ [])) (holds 37 0x03030302020002010101030303030303030303020200020101020200020101010101010101)
+
+unfoldable pub retired : List Case
+retired = case-k2 ∷ []
 
 -- ---- the test, and what it proves
 
@@ -157,5 +170,11 @@ pub record Settled (a : ℕ) (s : List ℕ) (c : Claim) : Type 0 where
   pub verdict : verdictOf a s ≡ good (verdictIn c)
   pub settles : Settles a question c
 
+abbrev pub AllSettled : List Case → Type 0
+AllSettled cs = Every (λ c. Settled 1 (c .question) (c .irrelevant) × Settled 2 (c .question) (c .computable)) cs
+
 abbrev pub TwelveSettled : Type 0
-TwelveSettled = Every (λ c. Settled 1 (c .question) (c .irrelevant) × Settled 2 (c .question) (c .computable)) twelve
+TwelveSettled = AllSettled twelve
+
+abbrev pub RetiredSettled : Type 0
+RetiredSettled = AllSettled retired

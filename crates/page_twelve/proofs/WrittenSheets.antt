@@ -15,7 +15,6 @@ use Rattle.page_formulas.specs.Compilation.{compile}
 use Rattle.page_formulas.specs.Formulas.{among, after, hiddenRanges, boundedAll, differsOver, tabulate}
 use Rattle.page_formulas.specs.Knowledge.{run3}
 use Rattle.page_formulas.specs.Program.{places}
-use Rattle.page_questions.specs.Guarantees.{Every}
 use Rattle.page_questions.specs.Layout.{total, tablesOf, visibleFrom, questionFrom}
 use Rattle.page_questions.specs.Reader.{Read, many, byte, int, columnAt, comparisonAt, tokenAt, conditionAt, rowAt, insertAt, deleteAt, modeAt, modifyAt, ending, fromChange, fromCondition, fromVisible, fromColumns, fromWidths, fromChanged, fromKind, fromTables, fromVersion, readUnder, readOf}
 use Rattle.page_questions.proofs.Guarantees.{accepted}
@@ -23,8 +22,8 @@ use Rattle.page_sheets.specs.Facts.{confineAll}
 use Rattle.page_sheets.specs.Rows.{bytesOfRow}
 use Rattle.page_sheets.specs.Tree.{bytesOf}
 use Rattle.page_sheets.specs.Trees.{bytesAll}
-use Rattle.page_sheets.specs.Twelve.{Claim, Case, bytesIn, numbers, sheetIn, twelve}
-use Rattle.page_twelve.specs.WrittenSheets.{Written, TwelveWritten}
+use Rattle.page_sheets.specs.Twelve.{Claim, Case, bytesIn, numbers, sheetIn, twelve, retired}
+use Rattle.page_twelve.specs.WrittenSheets.{Written, AllWritten, TwelveWritten, RetiredWritten}
 use Rattle.page_twelve.proofs.Sheets.{tableTrees, tableSheet, sheet-tabled}
 use Rattle.page_twelve.proofs.Tables.{rows, table, tableFast, tableTree}
 
@@ -50,9 +49,9 @@ unfoldable testAll : List Case → Bool
 testAll [] = true
 testAll (c ∷ cs) = test 1 (c .irrelevant) (readOf (c .question)) && test 2 (c .computable) (readOf (c .question)) && testAll cs
 
-tested : T (testAll twelve)
-unfolding int32 le32 bytes4 minZ tighten blank relax S.least S.first S.best S.test S.greedy S.start S.fewest S.walk S.search compile among after hiddenRanges boundedAll differsOver tabulate run3 places total tablesOf visibleFrom questionFrom many byte int columnAt comparisonAt tokenAt conditionAt rowAt insertAt deleteAt modeAt modifyAt ending fromChange fromCondition fromVisible fromColumns fromWidths fromChanged fromKind fromTables fromVersion readUnder confineAll bytesOfRow bytesOf bytesAll bytesIn numbers rows table tableFast tableTree tableTrees tableSheet twelve testAll
-tested = tt
+tested : T (testAll twelve) × T (testAll retired)
+unfolding int32 le32 bytes4 minZ tighten blank relax S.least S.first S.best S.test S.greedy S.start S.fewest S.walk S.search compile among after hiddenRanges boundedAll differsOver tabulate run3 places total tablesOf visibleFrom questionFrom many byte int columnAt comparisonAt tokenAt conditionAt rowAt insertAt deleteAt modeAt modifyAt ending fromChange fromCondition fromVisible fromColumns fromWidths fromChanged fromKind fromTables fromVersion readUnder confineAll bytesOfRow bytesOf bytesAll bytesIn numbers rows table tableFast tableTree tableTrees tableSheet twelve retired testAll
+tested = (tt, tt)
 
 -- ---- from the test to the sheet
 
@@ -63,7 +62,7 @@ written a s c t = go (readOf s) refl t
     go (good q) e t = record { question = q; reads = e; sheet = sheet-tabled q a (accepted s q e) ∙ same-is (tableSheet q a) (sheetIn a c) t }
     go (refused n p) e t = absurd t
 
-all-written : (cs : List Case) → T (testAll cs) → Every (λ c. Written 1 (c .question) (c .irrelevant) × Written 2 (c .question) (c .computable)) cs
+all-written : (cs : List Case) → T (testAll cs) → AllWritten cs
 unfolding testAll
 all-written [] t = tt
 all-written (c ∷ cs) t =
@@ -74,4 +73,8 @@ all-written (c ∷ cs) t =
 
 -- the twelve, as one fact over the table
 pub twelve-written : TwelveWritten
-twelve-written = all-written twelve tested
+twelve-written = all-written twelve (tested .0)
+
+-- and the one of version 2
+pub retired-written : RetiredWritten
+retired-written = all-written retired (tested .1)
