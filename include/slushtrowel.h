@@ -17,12 +17,12 @@
  * Every function returns 0, or the number of the refusal:
  *
  *      1  the question ends within a field          2  not the mark VUQ
- *      3  not version 1                             4  a count, kind, table, mode, flag or the like
+ *      3  neither version 1 nor 2                   4  a count, kind, table, mode, flag or the like
  *      5  a range, constant or value out of range   6  a malformed condition
  *      7  a column that doesn't exist there         8  no visible column
  *      9  bytes after the question's end
  *     11  the sheet ends within a field            12  not the mark VUS
- *     13  not version 1                            14  a byte outside the values that a sheet may have
+ *     13  not a sheet of version 1                 14  a byte outside the values that a sheet may have
  *     15  a leaf, branch, value or row that        16  bytes after the sheet's end
  *         doesn't hold
  *     20  asked is neither 1 nor 2                 21  the sheet is longer than the room

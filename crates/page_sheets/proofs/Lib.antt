@@ -37,3 +37,4 @@ pub mod Refusals
 pub mod Faults
 pub mod Entries
 pub mod RaisedLimits
+pub mod Versions

@@ -11,3 +11,4 @@ pub mod Twelve
 pub mod Faults
 pub mod Refusals
 pub mod RaisedLimits
+pub mod Versions

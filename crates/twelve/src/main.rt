@@ -1,8 +1,9 @@
-// FORMAT 9.3 and 9.5: the twelve cases, and the shortcuts that are wrong; each with both answers, and the rows that show a no.
+// FORMAT 9.3 and 9.5: the twelve cases, one of them in version 2, and the shortcuts that are wrong; each with both answers, and the rows that show a no.
 mod list;
 mod shown;
 
 use list::change;
+use list::change_in;
 use printing::text;
 use shown::show;
 
@@ -58,7 +59,7 @@ fn modifies() {
         MODIFY,
         b"\x01\x01\x04\x01\xff\x0a\x00\x00\x00\x00\xff\x00\x00\x00\x00\x02\x01\xf8\xff\xff\xff",
     );
-    k(b"k  V := V - 40 where V >= 10");
+    k(b"k  V := V - 40 where V >= 10", 1);
     change(
         b"l  V := 7 where V >= 10",
         MODIFY,
@@ -74,9 +75,10 @@ fn g(label: &[u8]) {
     change(label, DELETE, b"\x01\x01\x04\x01\xff\x05\x00\x00\x00");
 }
 
-fn k(label: &[u8]) {
-    change(
+fn k(label: &[u8], version: u8) {
+    change_in(
         label,
+        version,
         MODIFY,
         b"\x01\x01\x04\x01\xff\x0a\x00\x00\x00\x00\xff\x00\x00\x00\x00\x02\x01\xd8\xff\xff\xff",
     );
@@ -117,7 +119,7 @@ fn shortcuts() {
     text(b"shortcuts that are wrong\n");
     properties();
     g(b"2  g again: computable, and V is hidden");
-    k(b"3  k again: new values are tested");
+    k(b"3  k again: new values are tested", 1);
     change(
         b"3  delete V > 30: ranges are facts",
         DELETE,
@@ -131,5 +133,7 @@ fn main() {
     inserts();
     deletes();
     modifies();
+    text(b"in version 2\n");
+    k(b"k  V := V - 40 where V >= 10: every listed row goes", 2);
     shortcuts();
 }

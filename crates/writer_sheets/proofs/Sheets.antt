@@ -6,9 +6,9 @@ use mathlib.Core.List.{List, [], _∷_, _++_}
 use native.Mathlib.Omega.{arith}
 use lib.Dec.{T, eqb}
 use lib.ListN.{length, getD, length-map}
-use Rattle.page_meaning.specs.Contents.{Table, Change, insert, delete, modify, Question}
+use Rattle.page_meaning.specs.Contents.{Version, version1, version2, Table, Change, insert, delete, modify, Question}
 use Rattle.page_meaning.specs.Contents as M
-use Rattle.page_meaning.specs.Claims.{unlessAlone}
+use Rattle.page_meaning.specs.Claims.{modification, unlessAlone}
 use Rattle.page_meaning.specs.Limits.{mostRows}
 use Rattle.page_questions.specs.Guarantees.{Accepted, ChangeAccepted}
 use Rattle.page_formulas.specs.Formulas.{Formula, irrelevance, computability, formulas, noFormula}
@@ -45,7 +45,11 @@ module _ (q : Question) where
   few (insert new) h false = let e : length (irrelevance q (insert new)) ≡ length new = length-map new _ in omega (arith, unless-fewer (q .front) (q .back) (irrelevance q (insert new)), e, h)
   few (delete d) h true = omega arith
   few (delete d) h false = omega arith
-  few (modify d ms) h true = omega arith
+  few (modify d ms) h true = let e : length (irrelevance q (modify d ms)) ≡ length (modification (q .version) true) = length-map (modification (q .version) true) _ in omega (arith, e, four (q .version))
+    where
+      four : (v : Version) → length (modification v true) ≤ mostRows
+      four version1 = omega arith
+      four version2 = omega arith
   few (modify d ms) h false = omega arith
 
 module _ (q : Question) (ok : Accepted q) (a : ℕ) where

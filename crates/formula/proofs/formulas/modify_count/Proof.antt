@@ -1,5 +1,6 @@
-use mathlib.Core.Path.{ap, sym, _∙_}
+use mathlib.Core.Path.{ap}
 use mathlib.Core.Bool.{true}
+use native.Mathlib.Omega.{arith}
 use lib.ListN.{length}
 use Rattle.page_meaning.specs.Claims.{modification}
 use Rattle.question.specs.Held.{versionOf}
@@ -17,12 +18,12 @@ enum-told-2 c = search needs
 returns : tie.Need-returns
 returns c =
     let at = c .before .before in
-    ap (λ v. length (modification (versionOf v) true)) (sym (c .enum-told .given .1)) ∙ modify-first (at .before .args .q) (at .before .args .asked) (at .before .pre) (at .if1 .taken)
+    omega (arith, ap (λ v. length (modification (versionOf v) true)) (c .enum-told .given .1), modify-first (at .before .args .q) (at .before .args .asked) (at .before .pre) (at .if1 .taken))
 
 returns-2 : tie.Need-returns-2
 returns-2 c =
     let at = c .before .before in
-    ap (λ v. length (modification (versionOf v) true)) (sym (c .enum-told2 .given .1)) ∙ modify-first (at .before .args .q) (at .before .args .asked) (at .before .pre) (at .if1 .taken)
+    omega (arith, ap (λ v. length (modification (versionOf v) true)) (c .enum-told2 .given .1), modify-first (at .before .args .q) (at .before .args .asked) (at .before .pre) (at .if1 .taken))
 
 returns-3 : tie.Need-returns-3
 returns-3 c = let at = c .before in modify-second (at .args .q) (at .args .asked) (at .pre) (c .if1 .left)
