@@ -4,6 +4,7 @@ use crate::types::Line;
 use crate::types::Part;
 use question::types::Verb;
 use question::types::Version;
+ghost use Prim.Native.Nat.{ℕ};
 ghost use mathlib.Core.Bool.{true, false};
 ghost use lib.Dec.{eqb};
 ghost use Rattle.page_meaning.specs.Contents as meant;
@@ -215,23 +216,13 @@ fn of_one(i: usize) -> Line
     RETIRED
 }
 
-// One row is seen after the change, and one isn't.
-fn seen(version: Version) -> Line
-    ensures { λ r. ⌜ Tabled r (lineFor (versionOf version) Verb.Modify false 1) ⌝ }
+// The one of version 1, or the one of version 2.
+fn by(version: Version, one: Line, two: Line) -> Line
+    ensures { λ r. ⌜ ((i : ℕ) → Tabled one (lineFor meant.version1 Verb.Modify false i) → Tabled two (lineFor meant.version2 Verb.Modify false i) → Tabled r (lineFor (versionOf version) Verb.Modify false i)) ⌝ }
 {
     match version {
-        Version::One => ONE_STAYS,
-        Version::Two => ONE_LASTS,
-    }
-}
-
-// One row moves, and one stays where it is.
-fn apart(version: Version) -> Line
-    ensures { λ r. ⌜ Tabled r (lineFor (versionOf version) Verb.Modify false 3) ⌝ }
-{
-    match version {
-        Version::One => ONE_MOVES,
-        Version::Two => ONE_CHOSEN,
+        Version::One => one,
+        Version::Two => two,
     }
 }
 
@@ -244,12 +235,12 @@ fn of_two(version: Version, i: usize) -> Line
         return ENTERS;
     }
     if i == 1 {
-        return seen(version);
+        return by(version, ONE_STAYS, ONE_LASTS);
     }
     if i == 2 {
         return BOTH_MOVE;
     }
-    apart(version)
+    by(version, ONE_MOVES, ONE_CHOSEN)
 }
 
 // The line of formula i; an insert has the same for every row.

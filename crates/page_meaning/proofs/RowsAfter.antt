@@ -29,6 +29,11 @@ fateOf q (modify d ms) = modifyFate (q .version) q d ms
 
 -- ---- what is left of one row
 
+-- does a row leave its place: is it chosen, are its new values in range
+abbrev gone : Version → Bool → Bool → Bool
+gone version1 b g = b && g
+gone version2 b g = b
+
 module _ (P : Values → Type 0) where
   abbrev Some : List Values → Type 0
   Some l = (s : Values) × (s ∈ l) × P s
@@ -51,11 +56,6 @@ module _ (P : Values → Type 0) where
   deleted true old = removed old old
   deleted false old = stayed old old
 
-  -- does a row leave its place, if it is chosen and its new values are in range
-  abbrev gone : Version → Bool → Bool → Bool
-  gone version1 b g = b && g
-  gone version2 b g = b
-
   modified : (v : Version) (b g : Bool) (old new : Values) → Some (cond b (cond g (new ∷ []) (unmoved v old)) (old ∷ [])) ↔ ((T (not (gone v b g)) × P old) ⊎ (T (b && g) × P new))
   modified version1 true true old new = moved-on old new
   modified version1 true false old new = stayed old new
@@ -68,20 +68,17 @@ module _ (P : Values → Type 0) where
 moves-same : (q : Question) (d : Condition) (ms : List Mode) → ChangeOk q (modify d ms) → (x : Full) → Wide q x → meets d (place q (x .here)) && fits (q .changed) (newRow q ms (x .here)) ≡ moves q d ms (row x)
 moves-same q d ms ok x w = ap₂ _&&_ (selected-same q x w d (ok .0)) (fits-same q x w ms (ok .1))
 
-modified-exactly : (version : Version) (q : Question) (d : Condition) (ms : List Mode) → ChangeOk q (modify d ms) → (x : Full) → Wide q x → (v : Values)
-    → ((s : Values) × (s ∈ cond (meets d (place q (x .here))) (cond (fits (q .changed) (newRow q ms (x .here))) (newRow q ms (x .here) ∷ []) (unmoved version (x .here))) (x .here ∷ [])) × Shows q (row (with x s)) v) ↔ Then q (modifyFate version q d ms) (row x) v
-modified-exactly version1 q d ms ok x w v =
-    rw (← moves-same q d ms ok x w, ← row-same q x w ms (ok .1) (ok .2))
-    (modified (λ s. Shows q (row (with x s)) v) version1 (meets d (place q (x .here))) (fits (q .changed) (newRow q ms (x .here))) (x .here) (newRow q ms (x .here)))
-modified-exactly version2 q d ms ok x w v =
-    rw (← moves-same q d ms ok x w, ← selected-same q x w d (ok .0), ← row-same q x w ms (ok .1) (ok .2))
-    (modified (λ s. Shows q (row (with x s)) v) version2 (meets d (place q (x .here))) (fits (q .changed) (newRow q ms (x .here))) (x .here) (newRow q ms (x .here)))
+leaves-same : (version : Version) (q : Question) (d : Condition) (ms : List Mode) → ChangeOk q (modify d ms) → (x : Full) → Wide q x → gone version (meets d (place q (x .here))) (fits (q .changed) (newRow q ms (x .here))) ≡ leaves q d ms version (row x)
+leaves-same version1 q d ms ok x w = moves-same q d ms ok x w
+leaves-same version2 q d ms ok x w = selected-same q x w d (ok .0)
 
 left-exactly : (q : Question) (ch : Change) → ChangeOk q ch → (x : Full) → Wide q x → (v : Values)
     → ((s : Values) × (s ∈ left q ch (x .here)) × Shows q (row (with x s)) v) ↔ Then q (fateOf q ch) (row x) v
 left-exactly q (insert new) ok x w v = stayed (λ s. Shows q (row (with x s)) v) (x .here) (x .here)
 left-exactly q (delete d) ok x w v = rw (← selected-same q x w d ok) (deleted (λ s. Shows q (row (with x s)) v) (meets d (place q (x .here))) (x .here))
-left-exactly q (modify d ms) ok x w v = modified-exactly (q .version) q d ms ok x w v
+left-exactly q (modify d ms) ok x w v =
+    rw (← leaves-same (q .version) q d ms ok x w, ← moves-same q d ms ok x w, ← row-same q x w ms (ok .1) (ok .2))
+    (modified (λ s. Shows q (row (with x s)) v) (q .version) (meets d (place q (x .here))) (fits (q .changed) (newRow q ms (x .here))) (x .here) (newRow q ms (x .here)))
 
 -- ---- the list after the change
 

@@ -11,24 +11,24 @@ use Rattle.formula_lines.proofs.lines.of_two.Tie as tie
 returns : tie.Need-returns
 returns c = let a = c .before .args in tabled (versionOf (a .version)) Modify false false (a .i) 0 refl (c .if1 .taken) (record { is = refl; some = omega arith; few = omega arith; long = refl })
 
-seen-requires : tie.Need-seen-requires
-seen-requires c κs = search needs
+by-requires : tie.Need-by-requires
+by-requires c κs = search needs
 
 returns-2 : tie.Need-returns-2
-returns-2 c = let a = c .before .before .before .args in tabled (versionOf (a .version)) Modify false false (a .i) 1 refl (c .before .if2 .taken) (c .seen .ensures)
+returns-2 c = let a = c .before .before .before .args in tabled (versionOf (a .version)) Modify false false (a .i) 1 refl (c .before .if2 .taken) (c .by .ensures 1 (record { is = refl; some = omega arith; few = omega arith; long = refl }) (record { is = refl; some = omega arith; few = omega arith; long = refl }))
 
 returns-3 : tie.Need-returns-3
 returns-3 c = let a = c .before .before .before .args in tabled (versionOf (a .version)) Modify false false (a .i) 2 refl (c .if3 .taken) (record { is = refl; some = omega arith; few = omega arith; long = refl })
 
-apart-requires : tie.Need-apart-requires
-apart-requires c κs = search needs
+by-requires-2 : tie.Need-by-requires-2
+by-requires-2 c κs = search needs
 
 returns-4 : tie.Need-returns-4
 returns-4 c =
     let at = c .before .before .before .before in
     let a = at .args in
-    tabled (versionOf (a .version)) Modify false false (a .i) 3 refl (omega (arith, at .pre, c .before .before .before .if1 .left, c .before .before .if2 .left, c .before .if3 .left)) (c .apart .ensures)
+    tabled (versionOf (a .version)) Modify false false (a .i) 3 refl (omega (arith, at .pre, c .before .before .before .if1 .left, c .before .before .if2 .left, c .before .if3 .left)) (c .by2 .ensures 3 (record { is = refl; some = omega arith; few = omega arith; long = refl }) (record { is = refl; some = omega arith; few = omega arith; long = refl }))
 
 pub of-two-spec : {M : Type 1} → statement M
 of-two-spec =
-    tie.close (tie.spec returns seen-requires returns-2 returns-3 apart-requires returns-4)
+    tie.close (tie.spec returns by-requires returns-2 returns-3 by-requires-2 returns-4)
