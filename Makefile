@@ -1,7 +1,7 @@
 # The commands of the project. `make test` is the gate.
 SHELL := /bin/bash
 .SHELLFLAGS := -euo pipefail -c
-.PHONY: test house programs run twelve published refusals lib timed soak slow bench count stack fmt
+.PHONY: test house programs run twelve published refusals lib timed soak store slow bench count stack fmt
 
 cargo = cargo $(1) --quiet --offline --release --manifest-path rust/Cargo.toml
 
@@ -47,6 +47,11 @@ LONG ?= 600
 SEED ?= 1
 soak: lib
 	$(call cargo,run) -p diff --bin soak -- $(LONG) $(SEED)
+
+# The definitions over contents against SQLite, which must be installed; not a part of the gate. So many cases from a seed.
+CASES ?= 2000
+store:
+	$(call cargo,run) -p samples --bin store -- $(CASES) $(SEED) | sqlite3 -batch -bail -list -noheader :memory: | awk '{ print } END { exit !/ cases, 0 differ;/ }'
 
 # The library as it is timed: on a machine that isn't x86-64, the same code compiled for that machine.
 ifeq ($(shell uname -m),x86_64)

@@ -2,7 +2,7 @@
 //!
 //! Seeded questions and sheets, sound and damaged: the same seed gives the same ones everywhere.
 //! Questions with known answers (`examples`), recorded calls with their answers (`recorded`), calls at the
-//! limits (`limits`) and about the versions (`versions`).
+//! limits (`limits`) and about the versions (`versions`). Questions and contents as SQL (`sql`).
 
 mod chance;
 mod change;
@@ -14,6 +14,7 @@ pub mod limits;
 mod questions;
 pub mod recorded;
 mod sheets;
+pub mod sql;
 pub mod versions;
 
 pub use chance::Chance;
