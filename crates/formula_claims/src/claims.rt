@@ -9,7 +9,6 @@ use limits::PLACES;
 use pieces::conditions::condition;
 use pieces::differences::differs;
 use pieces::ranges::bounded_all;
-use pieces::ranges::ranged;
 use program::instructions::emit;
 use program::types::End;
 use program::types::Joint;
@@ -44,7 +43,7 @@ pub fn moves(
     bounded_all(kinds, left, right, most, one, new, columns)
 }
 
-// The range tests alone.
+// The range tests alone: true if there is none.
 pub fn in_range(
     kinds: &mut [u8; INSTRUCTIONS],
     left: &mut [u8; PLACES],
@@ -59,8 +58,9 @@ pub fn in_range(
 {
     let s = d.sight;
     let columns = d.columns;
+    let one = emit(kinds, left, right, most, at, Joint::True);
     let new = view(s, d.pairs, second, true);
-    ranged(kinds, left, right, most, at, new, columns)
+    bounded_all(kinds, left, right, most, one, new, columns)
 }
 
 // S of version 1.

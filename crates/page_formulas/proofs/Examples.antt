@@ -9,9 +9,9 @@ use lib.IntN.{ℤ, pos, negsuc}
 use Rattle.page_meaning.specs.Condition.{Condition, compare, both, equal, atLeast, constant, column}
 use Rattle.page_meaning.specs.Contents.{Version, version1, version2, Question, Change, insert, modify, Mode, keep, shift, Range}
 use Rattle.page_meaning.specs.Claims.{staying, claims}
-use Rattle.page_formulas.specs.Program.{Instr, place, andI, orI, notI, trueI}
+use Rattle.page_formulas.specs.Program.{Instr, place, andI, orI, notI, trueI, falseI}
 use Rattle.page_formulas.specs.Compilation.{compile}
-use Rattle.page_formulas.specs.Formulas.{firstSight, secondSight, among, after, boundedAll, programs, formulas, noFormula}
+use Rattle.page_formulas.specs.Formulas.{firstSight, secondSight, among, after, boundedAll, differsOver, programs, formulas, noFormula}
 
 abbrev upTo : ℕ → Range
 upTo top = record { lo = pos 0; hi = pos top }
@@ -69,3 +69,14 @@ case-j-S : claims (programs retiring where10 less8) (λ i. firstSight) (staying 
     ∷ trueI ∷ at 2 0 (pos 38) ∷ andI ∷ at 0 2 (negsuc 7) ∷ andI ∷ at 1 4 (pos 0) ∷ at 4 1 (pos 0) ∷ andI ∷ at 0 2 (negsuc 17) ∷ andI ∷ andI ∷ orI ∷ []
 unfolding compile after boundedAll
 case-j-S = refl
+
+-- and the last formula for asked 2: of the second row, not the condition; its hidden V and Q are vertices 6 and 8. No visible column changes
+case-j-last : getD (formulas retiring 2) 3 noFormula .program
+    ≡ at 1 4 (pos 0) ∷ at 4 1 (pos 0) ∷ andI ∷ at 0 2 (negsuc 9) ∷ andI
+    ∷ at 1 8 (pos 0) ∷ at 8 1 (pos 0) ∷ andI ∷ at 0 6 (negsuc 9) ∷ andI ∷ andI
+    ∷ at 0 2 (negsuc 9) ∷ at 2 0 (pos 38) ∷ andI ∷ at 0 2 (negsuc 7) ∷ andI ∷ andI
+    ∷ at 0 6 (negsuc 9) ∷ notI ∷ andI
+    ∷ at 1 4 (pos 0) ∷ at 4 1 (pos 0) ∷ andI ∷ at 0 2 (negsuc 17) ∷ andI ∷ andI
+    ∷ falseI ∷ andI ∷ []
+unfolding compile among after boundedAll differsOver
+case-j-last = refl

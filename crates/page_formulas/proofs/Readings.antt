@@ -1,14 +1,16 @@
 -- Two readings of the table that agree on its words agree on every claim, part, line and formula.
 use mathlib.Core.Path.{refl}
 use mathlib.Core.Logic.{inl, inr}
-use mathlib.Core.Bool.{Bool, true, false}
+use mathlib.Core.Bool.{Bool, true, false, _&&_}
 use mathlib.Core.List.{List, [], _∷_, map, foldl}
-use native.Mathlib.Omega.{arith}
+use lib.Dec.{T, leb, leb→le}
 use Rattle.page_meaning.specs.Condition.{Condition}
 use Rattle.page_meaning.specs.Contents.{Version, version1, version2, Question, Change, insert, delete, modify, Mode, become, Values, Table}
 use Rattle.page_meaning.specs.Claims.{Claim, listed, relisted, chosen, fitting, moving, staying, differing, Part, of1, of2, not1, not2, Line, insertion, deletion, modification, Reading, claims, readPart, readParts, unlessAlone, formulasBy}
 use Rattle.page_questions.specs.Guarantees.{Every}
-use Rattle.page_formulas.specs.Costs.{Fits}
+use Rattle.page_meaning.specs.Limits.{mostDecisions}
+use Rattle.page_meaning.proofs.Truth.{and-l, and-r}
+use Rattle.page_formulas.specs.Costs.{lineCost, mostInstructions, Fits}
 use Rattle.page_formulas.proofs.Usability.{Contexts}
 
 -- rows as they are, rows after the change or not, and what is said of them
@@ -59,18 +61,33 @@ Matched R (a ∷ l) (b ∷ bs) = R a b × Matched R l bs
 
 -- ---- every line of the table finds room
 
+-- by computation
+abbrev roomy : Line → Bool
+roomy l = leb (lineCost l .instructions) mostInstructions && leb (lineCost l .places) mostDecisions
+
+roomy-fits : (l : Line) → T (roomy l) → Fits l
+roomy-fits l t = record { instructions = leb→le _ _ (and-l (leb (lineCost l .instructions) mostInstructions) _ t); places = leb→le _ _ (and-r (leb (lineCost l .instructions) mostInstructions) _ t) }
+
+abbrev allRoomy : List Line → Bool
+allRoomy [] = true
+allRoomy (l ∷ ls) = roomy l && allRoomy ls
+
+lines-fit : (ls : List Line) → T (allRoomy ls) → Every Fits ls
+lines-fit [] t = tt
+lines-fit (l ∷ ls) t = (roomy-fits l (and-l (roomy l) (allRoomy ls) t), lines-fit ls (and-r (roomy l) (allRoomy ls) t))
+
 pub insertion-fits : Fits insertion
-insertion-fits = record { instructions = omega arith; places = omega arith }
+insertion-fits = roomy-fits insertion tt
 
 pub deletion-fits : (asked : Bool) → Every Fits (deletion asked)
-deletion-fits true = (record { instructions = omega arith; places = omega arith }, tt)
-deletion-fits false = (record { instructions = omega arith; places = omega arith }, tt)
+deletion-fits true = lines-fit (deletion true) tt
+deletion-fits false = lines-fit (deletion false) tt
 
 pub modification-fits : (v : Version) (asked : Bool) → Every Fits (modification v asked)
-modification-fits version1 true = (record { instructions = omega arith; places = omega arith }, (record { instructions = omega arith; places = omega arith }, (record { instructions = omega arith; places = omega arith }, tt)))
-modification-fits version2 true = (record { instructions = omega arith; places = omega arith }, (record { instructions = omega arith; places = omega arith }, (record { instructions = omega arith; places = omega arith }, (record { instructions = omega arith; places = omega arith }, tt))))
-modification-fits version1 false = (record { instructions = omega arith; places = omega arith }, (record { instructions = omega arith; places = omega arith }, (record { instructions = omega arith; places = omega arith }, (record { instructions = omega arith; places = omega arith }, tt))))
-modification-fits version2 false = (record { instructions = omega arith; places = omega arith }, (record { instructions = omega arith; places = omega arith }, (record { instructions = omega arith; places = omega arith }, (record { instructions = omega arith; places = omega arith }, tt))))
+modification-fits version1 true = lines-fit (modification version1 true) tt
+modification-fits version1 false = lines-fit (modification version1 false) tt
+modification-fits version2 true = lines-fit (modification version2 true) tt
+modification-fits version2 false = lines-fit (modification version2 false) tt
 
 -- ---- every formula of a change
 

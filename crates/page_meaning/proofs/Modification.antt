@@ -10,7 +10,7 @@ use Rattle.page_meaning.specs.Contents.{Version, version1, version2, Que
 use Rattle.page_meaning.specs.WellFormed.{ChangeOk}
 use Rattle.page_meaning.specs.Claims.{retirement, kept, modeAt}
 use Rattle.page_meaning.specs.Trouble.{All, AllFail, moved, newFits, formula}
-use Rattle.page_meaning.proofs.Words.{C, S, moves, leaves, staying-of, leaving-of, differ}
+use Rattle.page_meaning.proofs.Words.{C, S, moves, staying-of, leaving-of, differ}
 use Rattle.page_meaning.specs.Witness.{witness}
 use Rattle.page_meaning.proofs.Truth.{and-in, and-r, or-cases, or-l, or-r, parts, test}
 use Rattle.page_meaning.proofs.MovedRows.{kept-same, differ-yes, differ-no}

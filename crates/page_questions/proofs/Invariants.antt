@@ -36,7 +36,7 @@ pub cond-holds : {A : Type 0} (P : A → Type 0) (b : Bool) (x y : Outcome A) �
 cond-holds P true x y f g = f refl
 cond-holds P false x y f g = g refl
 
-both-true : (a b : Bool) → (a && b) ≡ true → (a ≡ true) × (b ≡ true)
+pub both-true : (a b : Bool) → (a && b) ≡ true → (a ≡ true) × (b ≡ true)
 both-true true b e = (refl, e)
 both-true false b e = absurd (false≢true e)
 

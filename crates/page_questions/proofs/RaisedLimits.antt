@@ -1,11 +1,11 @@
 -- A question that was read under some limits is read as the same question where the limits are higher.
-use Prim.Native.Nat.{ℕ, zero, suc, _+_, _-_, _*_, _≤_}
+use Prim.Native.Nat.{ℕ, zero, suc, _+_, _-_, _≤_}
 use mathlib.Core.Path.{_≡_, refl, ap, _∙_}
 use mathlib.Core.Bool.{Bool, true, false, cond, _&&_}
 use mathlib.Core.List.{List, [], _∷_, _++_}
 use native.Mathlib.Omega.{arith}
 use borrow.Author.Tests.{ltb-true, lt-ltb}
-use lib.Dec.{eqb, leb, ltb}
+use lib.Dec.{leb, ltb}
 use lib.ListN.{length, getD}
 use Rattle.page_numbers.specs.Outcome.{Outcome, good, refused}
 use Rattle.page_meaning.specs.Limits.{Limits}

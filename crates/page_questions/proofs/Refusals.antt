@@ -2,7 +2,7 @@
 -- fault it gives the question that the fields make.
 use mathlib.Core.Path.{_≡_, refl, sym, ap, subst, _∙_}
 use mathlib.Core.Logic.{_↔_, inl, inr}
-use mathlib.Core.Bool.{Bool, true, false, _&&_, cond, true≢false}
+use mathlib.Core.Bool.{Bool, true, false, cond, true≢false}
 use mathlib.Core.List.{List, [], _∷_, _++_}
 use Prim.Native.Nat.{ℕ, zero, suc, _+_, _*_, _≤_, _<_}
 use native.Mathlib.Omega.{arith}
@@ -16,6 +16,7 @@ use Rattle.page_questions.specs.Reader.{upTo, versionIn, readOf}
 use Rattle.page_questions.specs.Fields.{Field, mark, version, tableCount, changeKind, changedTable, columnCount, lo, visible, hi, someVisible, tokenCount, token, op, constant, seventh, operands, column, rightColumn, finish, rowCount, inserted, mode, noColumn, zeroConstant, end, size, sizes, followed, questionFields, fieldsOf, questionIn}
 use Rattle.page_questions.specs.Guarantees.{versionNumber}
 use Rattle.page_questions.specs.Faults.{asSaid, numberOf, AllSaid, Fault, Reached, FirstFault}
+use Rattle.page_questions.proofs.Invariants.{both-true}
 use Rattle.page_questions.proofs.StepFaults.{whole, judge}
 use Rattle.page_questions.proofs.QuestionFaults.{reads-fields}
 
@@ -193,13 +194,9 @@ pub version-told : (s : List ℕ) (q : Question) → readOf s ≡ good q → ver
 unfolding questionFields questionFrom followed asSaid
 version-told s q e =
     let h = taken s q .0 e in
-    let two = and-eq (leb 1 (versionIn s)) (ltb (versionIn s) (upTo 2)) (h .0 .2 .1) in
+    let two = both-true (leb 1 (versionIn s)) (ltb (versionIn s) (upTo 2)) (h .0 .2 .1) in
     subst (λ q. versionIn s ≡ versionNumber (q .version)) (h .1) (told (getD s 3 0) (getD s 4 0) (leb-true 1 (versionIn s) (two .0)) (ltb-true (versionIn s) (upTo 2) (two .1)))
   where
-    and-eq : (a b : Bool) → a && b ≡ true → (a ≡ true) × (b ≡ true)
-    and-eq true b e = (refl, e)
-    and-eq false b e = absurd (true≢false (sym e))
-
     told : (a b : ℕ) → 1 ≤ a + 256 * b → a + 256 * b < 3 → a + 256 * b ≡ versionNumber (versionBy a)
     told zero b l h = absurd (omega arith)
     told (suc zero) b l h = omega arith

@@ -12,7 +12,7 @@ use Rattle.page_formulas.specs.Formulas.{Formula, after, formula, irrelevance, 
 use Rattle.page_sheets.specs.Trees.{Finding, allShut, firstOpen, writeTrees}
 use Rattle.page_sheets.specs.Rows.{putRow, secondRow, bytesOfRow, fixed}
 use Rattle.page_sheets.specs.Sheet.{sayNo, Answer, header, sheetFor, findingUnder, findingOf, sheetUnder, sheetOf, field, checkYes, checkNo, checkRows, noEnd, checkBody, marked, versioned, checkSheetUnder, checkSheet}
-use Rattle.page_sheets.specs.Versions.{inVersion, Modifies, SameAnswers, ForModifyOnly}
+use Rattle.page_sheets.specs.Versions.{inVersion, Modifies, ForModifyOnly}
 
 module _ (v : Version) (q : Question) where
   listed-alike : (ch : Change) → ¬ Modifies ch → (b : Bool) → formulasBy (formula (inVersion v q)) (inVersion v q) ch b ≡ formulasBy (formula q) q ch b

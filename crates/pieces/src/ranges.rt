@@ -15,14 +15,11 @@ use sights::terms::term_at;
 use sights::types::Sight;
 ghost use mathlib.Core.Path.{_≡_};
 ghost use mathlib.Core.Bool.{true};
-ghost use mathlib.Core.List.{_∷_};
 ghost use Prim.Native.Nat.{_+_, _*_, _<_};
 ghost use lib.ListN.{length};
 ghost use Rattle.page_meaning.specs.Limits.{mostColumns};
 ghost use Rattle.page_meaning.specs.Claims as said;
 ghost use Rattle.question.specs.Held.{modeOf, columnOf};
-ghost use Rattle.page_formulas.specs.Program.{trueI};
-ghost use Rattle.page_formulas.specs.Costs.{rangedCost};
 ghost use Rattle.page_formulas.specs.Formulas.{boundedAll};
 ghost use Rattle.page_formulas.specs.Formulas as trouble;
 ghost use Rattle.program.specs.Built.{programOf, Room, Builds, Near, termOf};
@@ -107,21 +104,4 @@ pub fn bounded_all(
         j += 1;
     }
     next
-}
-
-// These alone: true if there is none.
-pub fn ranged(
-    kinds: &mut [u8; INSTRUCTIONS],
-    left: &mut [u8; PLACES],
-    right: &mut [u8; PLACES],
-    most: &mut [i64; PLACES],
-    at: End,
-    s: Sight,
-    columns: [Column; COLUMNS],
-) -> End
-    requires { ⌜ Room (programOf (now kinds) (now left) (now right) (now most) at) (rangedCost .instructions) (rangedCost .places) × Usable s × (s .moved ≡ true) × (length columns ≡ mostColumns) ⌝ }
-    ensures { λ r. ⌜ Builds (programOf (now (kinds .entry)) (now (left .entry)) (now (right .entry)) (now (most .entry)) at) (programOf (now (kinds .exit)) (now (left .exit)) (now (right .exit)) (now (most .exit)) r) (rangedCost .instructions) (rangedCost .places) (trueI ∷ boundedAll (rowOf s) (tableFrom (s .first) columns) (modesOf s)) ⌝ }
-{
-    let one = emit(kinds, left, right, most, at, Joint::True);
-    bounded_all(kinds, left, right, most, one, s, columns)
 }

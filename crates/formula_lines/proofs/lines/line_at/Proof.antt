@@ -4,7 +4,7 @@ use native.Mathlib.Omega.{arith}
 use lib.Dec.{eqb}
 use borrow.Author.Tests.{eq-eqb, ne-eqb}
 use Rattle.question.specs.Held.{versionOf}
-use Rattle.question.specs.declared.types.Verb.the-variants.{Delete, Modify}
+use Rattle.question.specs.declared.types.Verb.the-variants.{Delete}
 use Rattle.formula_lines.proofs.TableLines.{tabled}
 use borrow.Author.Needs.{needs}
 use Rattle.formula_lines.proofs.lines.line_at.Statement.{statement}
