@@ -1,4 +1,6 @@
 // The public routines over bytes: the verdict, the sheet that shows it, and the check of a sheet.
+#![tactic(auto)]
+
 ghost use Rattle.std.specs.Prelude.{◌≡◌};
 ghost use Rattle.page_sheets.specs.Answers.{verdict_of, write_of, check_of};
 ghost use Rattle.outcome.specs.Answers.{judged_of, done_of};

@@ -1,5 +1,7 @@
 // Reads a question from standard input and prints, for either thing that can be asked of it, the verdict and the length of the
 // sheet that shows it.
+#![tactic(auto)]
+
 use libc::STDIN_FILENO;
 use outcome::Written;
 use printing::{line_end, text, words};

@@ -1,4 +1,6 @@
 // FORMAT 4.4: 20 first, then the question.
+#![tactic(auto)]
+
 ghost use Rattle.question.specs.Held.{Reads};
 ghost use Rattle.page_sheets.specs.Answers.{asked_of};
 

@@ -1,5 +1,7 @@
 // The three routines for C and whoever speaks to C (include/slushtrowel.h). A slice is a pointer and a length there, a
 // lent number a pointer; the result is 0, or the number that says no.
+#![tactic(auto)]
+
 ghost use Rattle.std.specs.Prelude.{◌≡◌};
 ghost use Rattle.page_sheets.specs.Sheet.{verdict_byte};
 ghost use Rattle.page_sheets.specs.Answers.{verdict_of, write_of, check_of};

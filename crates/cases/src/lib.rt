@@ -1,5 +1,7 @@
 // Cases as text: a case is a line, its fields are apart by tabs, and bytes stand in hexadecimal. An empty line, or one that starts
 // with #, is a remark.
+#![tactic(auto)]
+
 ghost use Rattle.std.specs.Prelude.{◌+◌, ◌≤◌, min, ◌≡◌, length, take};
 ghost use Rattle.bytes.specs.Bytes.{index_of};
 ghost use Rattle.cases.specs.Hex.{digit_of, byte_of, bytes_of_hex};
@@ -7,14 +9,14 @@ ghost use Rattle.cases.specs.Decoding.{Decodes};
 
 // Where the part before a text's first mark ends, and where the rest after the mark starts. Without a mark all of the text is the
 // part.
-#[derive(Drop)]
+#[derive(Clone, Copy)]
 pub struct Parting {
     pub stop: usize,
     pub next: usize,
 }
 
 // What came of decoding: so many bytes; or the digits are wrong, or they are more than the room holds.
-#[derive(Drop)]
+#[derive(Clone, Copy)]
 pub enum Decoded {
     Bytes(usize),
     Wrong,

@@ -16,7 +16,7 @@ use question::types::{Answer, Change, Column, Condition, Mode, Row, Setting, Ver
 use tokens::condition::{always, condition_at};
 
 // A change and the next offset, or a refusal.
-#[derive(Drop)]
+#[derive(Clone, Copy)]
 pub struct ChangeRead {
     pub answer: Answer,
     pub change: Change,

@@ -1,3 +1,5 @@
+#![tactic(auto)]
+
 pub mod change;
 pub mod modes;
 pub mod rows;

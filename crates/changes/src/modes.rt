@@ -10,14 +10,14 @@ use limits::COLUMNS;
 use question::types::{Answer, Mode, Setting};
 
 // A mode's column byte and constant and the offset after them, or a refusal.
-#[derive(Drop)]
+#[derive(Clone, Copy)]
 pub enum OperandRead {
     Good(u8, i32, usize),
     Refused(u8, usize),
 }
 
 // A mode and the offset after it, or a refusal.
-#[derive(Drop)]
+#[derive(Clone, Copy)]
 pub enum ModeRead {
     Good(Mode, usize),
     Refused(u8, usize),
@@ -93,7 +93,7 @@ fn mode_at(s: &[u8], low: usize, high: usize, p: usize) -> ModeRead
 }
 
 // Settings and the next offset, or a refusal.
-#[derive(Drop)]
+#[derive(Clone, Copy)]
 pub struct SettingsRead {
     pub answer: Answer,
     pub settings: [Setting; COLUMNS],

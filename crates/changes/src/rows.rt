@@ -10,7 +10,7 @@ use limits::{COLUMNS, ROWS};
 use question::types::{Answer, Column, Row};
 
 // One row's values and the next offset, or a refusal.
-#[derive(Drop)]
+#[derive(Clone, Copy)]
 pub struct RowRead {
     pub answer: Answer,
     pub row: Row,
@@ -51,7 +51,7 @@ fn row_at(s: &[u8], columns: [Column; COLUMNS], first: usize, width: usize, p: u
 }
 
 // Rows and the next offset, or a refusal.
-#[derive(Drop)]
+#[derive(Clone, Copy)]
 pub struct RowsRead {
     pub answer: Answer,
     pub rows: [Row; ROWS],

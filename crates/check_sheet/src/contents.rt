@@ -4,7 +4,7 @@ use printing::{line_end, numbers, text};
 use question::types::Verb;
 
 // What a line of the table shows: the columns' numbers, the values of some columns, or those of all others.
-#[derive(Drop)]
+#[derive(Clone, Copy)]
 enum Part {
     Numbers,
     Among,

@@ -1,5 +1,7 @@
 // check_sheet QUESTION-FILE irrelevant|computable SHEET-FILE: prints whether the sheet passes, and with which verdict; with a no
 // the contents that break the claim; or why the sheet doesn't pass.
+#![tactic(auto)]
+
 mod contents;
 
 use files::{Started, Taken};

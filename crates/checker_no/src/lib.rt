@@ -1,4 +1,6 @@
 // A no sheet: the number of a formula, the values of its rows, and then the end.
+#![tactic(auto)]
+
 ghost use Rattle.std.specs.Prelude.{◌≡◌, cond, ◌+◌, ◌≤◌, ◌<◌, length};
 ghost use Rattle.page_numbers.specs.Outcome.{good, refused};
 ghost use Rattle.page_meaning.specs.Contents as meant;

@@ -1,4 +1,6 @@
 // FORMAT 8.2: the nodes of a case tree, one at a time, and what the checker says of each.
+#![tactic(auto)]
+
 ghost use Rattle.page_formulas.specs.Costs.{most_instructions};
 ghost use Rattle.std.specs.Prelude.{◌≡◌, ℕ, ◌+◌, ◌≤◌, ◌<◌, map, length, take, drop, pos};
 ghost use Rattle.std.specs.Int.Signed.{lt_z};
@@ -19,14 +21,14 @@ use limits::{PLACES, VERTICES};
 use truth::truths::Truth;
 
 // Where a tree, or a part of it, ends in the bytes that were lent; or the number that says no, and where.
-#[derive(Drop)]
+#[derive(Clone, Copy)]
 pub enum Past {
     Good(usize),
     Refused(u8, usize),
 }
 
 // The vertices of a node 2: all there, or the first that is missing or that the formula lacks.
-#[derive(Drop)]
+#[derive(Clone, Copy)]
 pub enum Naming {
     Good,
     Refused(u8, usize),

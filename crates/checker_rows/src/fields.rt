@@ -10,7 +10,7 @@ use crate::layout::field_at;
 use question::types::Question;
 
 // Every field is there and its value may stand in it; or the first that is not so.
-#[derive(Drop)]
+#[derive(Clone, Copy)]
 pub enum Reading {
     Good,
     Refused(u8, usize),

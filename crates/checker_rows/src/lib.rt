@@ -1,4 +1,6 @@
 // The rows of a no sheet: which values may stand in their fields, and whether the formula is true at them.
+#![tactic(auto)]
+
 mod allowances;
 pub mod fields;
 pub mod formulas;

@@ -14,7 +14,7 @@ use limits::{PLACES, VERTICES};
 
 // Where the check of a tree stands: its position in the part that is lent, the decisions so far, how many places are left, and the fact of
 // the last decision. It isn't in the grid yet: only a node 3 needs the grid with it.
-#[derive(Drop)]
+#[derive(Clone, Copy)]
 pub struct Stage {
     pub at: usize,
     pub truths: [u8; PLACES],

@@ -1,4 +1,6 @@
 // A yes sheet: one tree per formula, and then the end.
+#![tactic(auto)]
+
 ghost use Rattle.std.specs.Prelude.{◌≡◌, ◌≤◌, length};
 ghost use Rattle.page_meaning.specs.Limits.{most_vertices};
 ghost use Rattle.question.specs.Held.{Held, question_of};

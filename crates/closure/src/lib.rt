@@ -1,4 +1,6 @@
 // The closure of facts, the least sums of all walks along them, with one fact more.
+#![tactic(auto)]
+
 ghost use Rattle.std.specs.Prelude.{◌≡◌, ◌<◌, ◌≤◌, pos, ◌+ℤ◌, length, get_or};
 ghost use Rattle.page_numbers.specs.Numbers.{min_z};
 ghost use Rattle.page_meaning.specs.Limits.{most_vertices};

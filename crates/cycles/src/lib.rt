@@ -1,3 +1,5 @@
+#![tactic(auto)]
+
 ghost use Rattle.std.specs.Prelude.{◌≡◌, ◌∷◌, ◌-◌, ◌<◌, ◌≤◌, pos, ◌+ℤ◌, get_or, take, ◌<ℤ◌};
 ghost use Rattle.std.specs.Int.Signed.{lt_z};
 ghost use Rattle.page_meaning.specs.Limits.{most_vertices};
@@ -26,7 +28,7 @@ fn first_closing(edges: &[i64; VERTICES], on: &[i64; VERTICES], n: usize, sum: i
 }
 
 // A found closed walk: how many vertices it has, and the first.
-#[derive(Drop)]
+#[derive(Clone, Copy)]
 struct Opening {
     count: usize,
     start: usize,
@@ -54,7 +56,7 @@ fn shortest(g: &[[i64; VERTICES]; VERTICES], n: usize) -> Opening
 }
 
 // A closed walk: its vertices are the first count of the list; count 0 stands for none.
-#[derive(Drop)]
+#[derive(Clone, Copy)]
 pub struct Cycle {
     pub count: usize,
     pub vertices: [u8; VERTICES],

@@ -1,4 +1,6 @@
 // FORMAT 5.6: the facts of a formula as edges of the grid.
+#![tactic(auto)]
+
 ghost use Rattle.std.specs.Prelude.{◌≡◌, ◌<◌};
 ghost use Rattle.std.proofs.Math.Option.{some};
 ghost use Rattle.page_walks.specs.Sizes.{Bounded, Sized};

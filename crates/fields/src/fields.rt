@@ -4,13 +4,13 @@ ghost use Rattle.page_questions.specs.Reader.{byte, int};
 ghost use Rattle.fields.specs.Bytes.{byte_of, number_of};
 
 // A value and the offset after it, or a refusal's number and place.
-#[derive(Drop)]
+#[derive(Clone, Copy)]
 pub enum ByteRead {
     Good(u8, usize),
     Refused(u8, usize),
 }
 
-#[derive(Drop)]
+#[derive(Clone, Copy)]
 pub enum NumberRead {
     Good(i32, usize),
     Refused(u8, usize),

@@ -1,4 +1,6 @@
 // The words and the files of a program that is started with QUESTION-FILE irrelevant|computable SHEET-FILE.
+#![tactic(auto)]
+
 ghost use Rattle.std.specs.Prelude.{◌≡◌, length};
 ghost use Rattle.files.specs.Words.{AsksFor};
 
@@ -18,7 +20,7 @@ pub fn room() -> [u8; SHEET]
 }
 
 // What came of reading a file into a room.
-#[derive(Drop)]
+#[derive(Clone, Copy)]
 pub enum Taken {
     // All of it: so many bytes.
     Whole(usize),
@@ -30,7 +32,7 @@ pub enum Taken {
 
 // How a program was started: what is asked, and how many bytes of its room the question takes; or in a way that standard error
 // has told of.
-#[derive(Drop)]
+#[derive(Clone, Copy)]
 pub enum Started {
     Asks(u8, usize),
     Wrong,

@@ -12,7 +12,7 @@ use question::types::{Column, Condition, Mode, Question, Row, Setting, Verb};
 use sights::types::Sight;
 
 // What claims are read under: the columns and the list's condition, the change's condition, and the sight of a row after the change.
-#[derive(Drop)]
+#[derive(Clone, Copy)]
 pub struct Context {
     pub sight: Sight,
     pub columns: [Column; COLUMNS],

@@ -1,3 +1,5 @@
 // What a question's formulas are read under: its list, and its change.
+#![tactic(auto)]
+
 pub mod contexts;
 pub mod views;

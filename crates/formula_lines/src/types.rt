@@ -5,7 +5,7 @@ pub const PARTS: usize = 7;
 
 // Of a row: C; C(F); the change's condition; its range tests; M; S of version 1 and of version 2; F of the row differs from row 1 or 2 (the
 // second?), as that is or after the change (after?).
-#[derive(Drop)]
+#[derive(Clone, Copy)]
 pub enum Claim {
     Listed,
     Relisted,
@@ -17,7 +17,7 @@ pub enum Claim {
     Differing(bool, bool),
 }
 
-#[derive(Drop)]
+#[derive(Clone, Copy)]
 pub struct Part {
     pub claim: Claim,
     pub second: bool,
@@ -25,7 +25,7 @@ pub struct Part {
 }
 
 // The first `count` parts; `pairs`: it speaks of two rows.
-#[derive(Drop)]
+#[derive(Clone, Copy)]
 pub struct Line {
     pub pairs: bool,
     pub parts: [Part; PARTS],

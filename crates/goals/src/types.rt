@@ -1,7 +1,7 @@
 // The declared types.
 
 // Facts that contradict each other, or so many goals that wait.
-#[derive(Drop)]
+#[derive(Clone, Copy)]
 pub struct Taken {
     pub closed: bool,
     pub count: usize,

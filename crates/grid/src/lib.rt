@@ -1,4 +1,6 @@
 // Facts between vertices: a grid of edge weights, lent to be read; one more fact gives a grid by value, or is looked at beside the grid.
+#![tactic(auto)]
+
 ghost use Rattle.std.specs.Prelude.{◌≡◌, ◌<◌, ◌≤◌, length};
 ghost use Rattle.page_walks.specs.Walk.{Below, closed};
 ghost use Rattle.page_numbers.specs.Numbers.{min_z};
@@ -34,7 +36,7 @@ pub fn lesser(a: i64, b: i64) -> i64
 }
 
 // One fact more, as an edge.
-#[derive(Drop)]
+#[derive(Clone, Copy)]
 pub struct Added {
     pub from: usize,
     pub to: usize,

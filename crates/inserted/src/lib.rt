@@ -1,4 +1,6 @@
 // The value that an insert fixes in a column of a no sheet's row: checker and writer ask for it alike.
+#![tactic(auto)]
+
 ghost use Rattle.std.specs.Prelude.{◌≡◌, [], ◌++◌, map, ℕ, ◌≤◌, ◌<◌, get_or, take, replicate};
 ghost use Rattle.std.proofs.Math.Option.{none, some};
 ghost use Rattle.page_meaning.specs.Limits.{most_columns, most_rows};
@@ -11,7 +13,7 @@ use limits::{COLUMNS, ROWS};
 use question::types::{Question, Row, Verb};
 
 // Any value may stand there, or this one only.
-#[derive(Drop)]
+#[derive(Clone, Copy)]
 pub enum Fixed {
     Free,
     At(i32),

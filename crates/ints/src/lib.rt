@@ -1,4 +1,6 @@
 // Little-endian i32 at a position of a slice: read, and written.
+#![tactic(auto)]
+
 pub mod weights;
 
 ghost use Rattle.std.specs.Prelude.{◌≡◌, ◌+◌, ◌*◌, ◌≤◌, length};

@@ -1,5 +1,7 @@
 // How large a question may be, and what follows from that for its formulas. Every limit of the code stands here once, as those of the
 // definitions stand in page_meaning's Limits and page_formulas' Costs.
+#![tactic(auto)]
+
 pub const TABLES: usize = 6;
 
 pub const COLUMNS: usize = 12;

@@ -1,7 +1,7 @@
 -- What a change guarantees that was read.
 use mathlib.Core.Path.{◌≡◌, refl, sym, ap, subst, ◌∙◌}
 use mathlib.Core.Logic.{inl, inr}
-use mathlib.Core.Bool.{Bool, true, ◌&&◌}
+use mathlib.Core.Bool.{Bool, true, false, ◌&&◌}
 use mathlib.Core.List.{List, [], ◌∷◌, ◌++◌}
 use Prim.Native.Nat.{ℕ, suc, ◌+◌, ◌≤◌, ◌<◌}
 use native.Mathlib.Omega.{arith}
@@ -23,6 +23,7 @@ use Rattle.page_questions.proofs.Conditions.{every_snoc, constant_holds, Sound, 
 
 and_true : (a b : Bool) → T a → T b → T (a && b)
 and_true true b x y = y
+and_true false b x y = absurd x
 
 fits_snoc : (gs : List Range) (vs : Values) (g : Range) (v : ℤ) → T (fits gs vs) → T (in_range g v) → T (fits (gs ++ (g ∷ [])) (vs ++ (v ∷ [])))
 fits_snoc [] [] g v h i = and_true (in_range g v) true i tt

@@ -1,4 +1,6 @@
 // What the programs write to standard output, said once: numbers, and the words for what is asked, verdicts and refusals.
+#![tactic(auto)]
+
 pub mod numbers;
 pub mod words;
 

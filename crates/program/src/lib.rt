@@ -1,2 +1,4 @@
+#![tactic(auto)]
+
 pub mod instructions;
 pub mod types;

@@ -3,14 +3,14 @@
 use limits::VERTICES;
 
 // Where a program that is being written ends: so many instructions and places so far.
-#[derive(Drop)]
+#[derive(Clone, Copy)]
 pub struct End {
     pub count: usize,
     pub places: usize,
 }
 
 // An instruction that is no place.
-#[derive(Drop)]
+#[derive(Clone, Copy)]
 pub enum Joint {
     And,
     Or,
@@ -20,14 +20,14 @@ pub enum Joint {
 }
 
 // A vertex plus an offset.
-#[derive(Drop)]
+#[derive(Clone, Copy)]
 pub struct Term {
     pub vertex: u8,
     pub offset: i64,
 }
 
 // The vertex numbers below `count`: whether the formula has the vertex, and if so what it ranges over.
-#[derive(Drop)]
+#[derive(Clone, Copy)]
 pub struct Vertices {
     pub count: usize,
     pub present: [bool; VERTICES],
@@ -36,7 +36,7 @@ pub struct Vertices {
 }
 
 // A compiled formula whose program stands in arrays that were lent: so many instructions and places; `pairs`: it speaks of two rows.
-#[derive(Drop)]
+#[derive(Clone, Copy)]
 pub struct Outline {
     pub count: usize,
     pub places: usize,

@@ -4,14 +4,14 @@
 pub const ROW: usize = 4;
 
 // How many instructions there are, and the last vertex.
-#[derive(Drop)]
+#[derive(Clone, Copy)]
 pub struct Extent {
     pub count: usize,
     pub last: usize,
 }
 
 // A place: left − right ≤ most.
-#[derive(Drop)]
+#[derive(Clone, Copy)]
 pub struct Edge {
     pub left: usize,
     pub right: usize,

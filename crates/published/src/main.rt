@@ -1,5 +1,7 @@
 // Every example of reports 000 and 002 that can be asked: its verdicts, irrelevant/computable, beside what the report says (- is
 // nothing). Standard input has the examples, as stdin here does: a line is name, report's verdicts, question in hexadecimal.
+#![tactic(auto)]
+
 use cases::Decoded;
 use libc::STDIN_FILENO;
 use limits::LONGEST;

@@ -2,7 +2,7 @@
 use limits::{COLUMNS, ROWS, TABLES, TOKENS};
 
 // < ≤ = ≥ > ≠
-#[derive(Drop)]
+#[derive(Clone, Copy)]
 pub enum Op {
     Less,
     AtMost,
@@ -13,13 +13,13 @@ pub enum Op {
 }
 
 // A comparison's right side: a constant, or a column plus a constant.
-#[derive(Drop)]
+#[derive(Clone, Copy)]
 pub enum Side {
     Constant(i32),
     Column(u8, i32),
 }
 
-#[derive(Drop)]
+#[derive(Clone, Copy)]
 pub enum Kind {
     Compare(Op, u8, Side),
     Both,
@@ -27,26 +27,26 @@ pub enum Kind {
     Negate,
 }
 
-#[derive(Drop)]
+#[derive(Clone, Copy)]
 pub struct Token {
     pub kind: Kind,
 }
 
 // The first `count` tokens are the condition.
-#[derive(Drop)]
+#[derive(Clone, Copy)]
 pub struct Condition {
     pub tokens: [Token; TOKENS],
     pub count: usize,
 }
 
-#[derive(Drop)]
+#[derive(Clone, Copy)]
 pub struct Column {
     pub lo: i32,
     pub hi: i32,
     pub visible: bool,
 }
 
-#[derive(Drop)]
+#[derive(Clone, Copy)]
 pub enum Mode {
     Keep,
     Become(i32),
@@ -54,18 +54,18 @@ pub enum Mode {
 }
 
 // What becomes of one column of the changed table.
-#[derive(Drop)]
+#[derive(Clone, Copy)]
 pub struct Setting {
     pub mode: Mode,
 }
 
 // An inserted row: the first `width` values count.
-#[derive(Drop)]
+#[derive(Clone, Copy)]
 pub struct Row {
     pub values: [i32; COLUMNS],
 }
 
-#[derive(Drop)]
+#[derive(Clone, Copy)]
 pub enum Verb {
     Insert,
     Delete,
@@ -73,7 +73,7 @@ pub enum Verb {
 }
 
 // An insert uses the first `count` rows; a delete its condition; a modify its condition and the first `width` settings.
-#[derive(Drop)]
+#[derive(Clone, Copy)]
 pub struct Change {
     pub verb: Verb,
     pub rows: [Row; ROWS],
@@ -83,7 +83,7 @@ pub struct Change {
 }
 
 // The tables: how many, which one is changed, the columns of each; the changed table's first column and width; all columns.
-#[derive(Drop)]
+#[derive(Clone, Copy)]
 pub struct Shape {
     pub tables: usize,
     pub changed: usize,
@@ -94,7 +94,7 @@ pub struct Shape {
 }
 
 // By which rule a question is meant.
-#[derive(Drop)]
+#[derive(Clone, Copy)]
 pub enum Version {
     One,
     Two,
@@ -102,7 +102,7 @@ pub enum Version {
 
 // The first `total` columns count. Column numbers run over all tables; rows and settings speak of the changed table's column
 // `first + j` at j.
-#[derive(Drop)]
+#[derive(Clone, Copy)]
 pub struct Question {
     pub shape: Shape,
     pub columns: [Column; COLUMNS],
@@ -111,14 +111,14 @@ pub struct Question {
     pub version: Version,
 }
 
-#[derive(Drop)]
+#[derive(Clone, Copy)]
 pub enum Answer {
     Good,
     Refused(u8, usize),
 }
 
 // The answer to a byte string, and where it is good, the question.
-#[derive(Drop)]
+#[derive(Clone, Copy)]
 pub struct Reading {
     pub answer: Answer,
     pub question: Question,

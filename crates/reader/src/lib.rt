@@ -1,4 +1,6 @@
 // Questions: the declared types, and the reader that gives every byte string its answer.
+#![tactic(auto)]
+
 ghost use Rattle.page_questions.specs.Reader.{read_of};
 ghost use Rattle.question.specs.Held.{Reads};
 

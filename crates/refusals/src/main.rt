@@ -1,6 +1,8 @@
 // Byte strings and the reader's answers: each of the numbers 1 to 9 at several places, and strings that are good. Standard input has
 // the strings, as stdin here does: a line is what was changed, bytes in hexadecimal. A line is printed for each: number and place,
 // or `good`, and what was changed.
+#![tactic(auto)]
+
 use cases::Decoded;
 use libc::STDIN_FILENO;
 use limits::LONGEST;

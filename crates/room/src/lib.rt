@@ -1,10 +1,12 @@
 // Bytes put into a lent room one after another. Once a byte finds no room nothing more is stored: the sheet is longer than the room,
 // and whoever writes may stop there.
+#![tactic(auto)]
+
 ghost use Rattle.std.specs.Prelude.{◌≤◌, ◌<◌, ◌-◌, ◌≡◌, ◌++◌, length, take, replicate, set};
 ghost use Rattle.room.specs.Room.{filling, put_one, puts};
 
 // Where the next byte goes, and whether a byte before it found no room.
-#[derive(Drop)]
+#[derive(Clone, Copy)]
 pub struct Spot {
     pub at: usize,
     pub over: bool,

@@ -4,7 +4,7 @@ use question::types::Setting;
 
 // Which term stands for a column: of the first row or of the second, as it is or moved by the settings. There are `total` columns; the
 // first `modes` settings are of those from number `first` on; `visible` is false past the last column.
-#[derive(Drop)]
+#[derive(Clone, Copy)]
 pub struct Sight {
     pub settings: [Setting; COLUMNS],
     pub visible: [bool; COLUMNS],

@@ -1,4 +1,6 @@
 // Before any place is decided: the closure of the ranges' facts, which needs no search. A vertex that the formula lacks counts as 0.
+#![tactic(auto)]
+
 ghost use Rattle.std.specs.Prelude.{ℕ, ◌≤◌, ◌<◌, ◌≡◌, pos, ◌-ℤ◌, length, get_or};
 ghost use Rattle.std.specs.Int.{w64};
 ghost use Rattle.std.proofs.Common.{SFits};

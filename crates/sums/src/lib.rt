@@ -1,3 +1,5 @@
+#![tactic(auto)]
+
 ghost use Rattle.std.specs.Prelude.{◌≡◌, ◌-◌, ◌<◌, ◌≤◌, pos, ◌+ℤ◌, length, get_or};
 ghost use Rattle.page_meaning.specs.Limits.{most_vertices};
 ghost use Rattle.page_walks.specs.Grid.{weight, far_n};

@@ -11,7 +11,7 @@ use limits::COLUMNS;
 use question::types::{Answer, Column};
 
 // A column and the offset after it, or a refusal.
-#[derive(Drop)]
+#[derive(Clone, Copy)]
 pub enum ColumnRead {
     Good(Column, usize),
     Refused(u8, usize),
@@ -52,7 +52,7 @@ fn column_at(s: &[u8], p: usize) -> ColumnRead
 }
 
 // Columns and the next offset, or a refusal.
-#[derive(Drop)]
+#[derive(Clone, Copy)]
 pub struct ColumnsRead {
     pub answer: Answer,
     pub columns: [Column; COLUMNS],

@@ -1,2 +1,4 @@
+#![tactic(auto)]
+
 pub mod columns;
 pub mod widths;

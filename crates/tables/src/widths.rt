@@ -11,7 +11,7 @@ use limits::{PAST_COLUMNS, TABLES};
 use question::types::{Answer, Shape};
 
 // Widths, their sum and the next offset, or a refusal.
-#[derive(Drop)]
+#[derive(Clone, Copy)]
 pub struct WidthsRead {
     pub answer: Answer,
     pub widths: [usize; TABLES],

@@ -14,7 +14,7 @@ use limits::{PAST_TOKENS, TOKENS};
 use question::types::{Answer, Condition, Kind, Token};
 
 // Tokens that were read: where the answer is good, the tokens, how many values stand after them, and the next offset.
-#[derive(Drop)]
+#[derive(Clone, Copy)]
 pub struct TokensRead {
     pub answer: Answer,
     pub tokens: [Token; TOKENS],
@@ -60,7 +60,7 @@ fn tokens_at(s: &[u8], low: usize, high: usize, n: usize, p: usize) -> TokensRea
 }
 
 // A condition that was read and the next offset, or a refusal.
-#[derive(Drop)]
+#[derive(Clone, Copy)]
 pub struct ConditionRead {
     pub answer: Answer,
     pub condition: Condition,

@@ -1,2 +1,4 @@
+#![tactic(auto)]
+
 pub mod condition;
 pub mod token;

@@ -10,7 +10,7 @@ use limits::COMPARISONS;
 use question::types::{Kind, Op, Side};
 
 // A token and the offset after it, or a refusal.
-#[derive(Drop)]
+#[derive(Clone, Copy)]
 pub enum TokenRead {
     Good(Kind, usize),
     Refused(u8, usize),

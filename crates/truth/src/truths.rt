@@ -7,7 +7,7 @@ ghost use Rattle.truth.specs.Cells.{three_of, code_of, joined_by, pushed_by, bit
 
 use limits::INSTRUCTIONS;
 
-#[derive(Drop)]
+#[derive(Clone, Copy)]
 pub enum Truth {
     Fails,
     Passes,

@@ -1,4 +1,6 @@
 // FORMAT 9.3 and 9.5: the twelve cases, one of them in version 2, and the shortcuts that are wrong; each with both answers, and the rows that show a no.
+#![tactic(auto)]
+
 mod list;
 mod shown;
 

@@ -10,7 +10,7 @@ use question::types::Question;
 use tableau::openings::formula_opens;
 
 // Is a formula open? If so, the first one's number, and values in range at which it is true.
-#[derive(Drop)]
+#[derive(Clone, Copy)]
 pub struct Found {
     pub open: bool,
     pub number: usize,

@@ -1,4 +1,6 @@
 // The vertices of a formula and what they range over.
+#![tactic(auto)]
+
 ghost use Rattle.std.specs.Prelude.{◌≡◌, not, ◌&&◌, ◌+◌, ◌≤◌, length};
 ghost use Rattle.page_meaning.specs.Limits.{most_columns};
 ghost use Rattle.program.specs.Compiled.{Spans};

@@ -1,4 +1,6 @@
 // What the facts so far say of each instruction: Kleene's three values, as codes (0 false, 1 not known, 2 true).
+#![tactic(auto)]
+
 ghost use Rattle.std.specs.Prelude.{suc, ◌<◌, ◌≡◌, length};
 ghost use Rattle.page_meaning.specs.Limits.{most_vertices};
 ghost use Rattle.page_walks.specs.Sizes.{Sized};

@@ -1,5 +1,7 @@
 // write_sheet QUESTION-FILE irrelevant|computable SHEET-FILE: writes the sheet that shows the verdict, and prints what was asked,
 // the verdict and the sheet's length; or why there is no sheet.
+#![tactic(auto)]
+
 use files::Started;
 use outcome::{Verdict, Written};
 use printing::{line_end, words};

@@ -1,4 +1,6 @@
 // A whole sheet for a question that was read, into a lent room.
+#![tactic(auto)]
+
 ghost use Rattle.std.specs.Prelude.{◌≡◌};
 ghost use Rattle.question.specs.Held.{Held, question_of};
 ghost use Rattle.page_questions.specs.Guarantees.{Accepted};
@@ -14,7 +16,7 @@ use verdicts::openings::first_open;
 use writer_sheets::{put_no, put_yes};
 
 // What was laid, and where it ends.
-#[derive(Drop)]
+#[derive(Clone, Copy)]
 pub struct SheetEnd {
     pub verdict: Verdict,
     pub spot: Spot,

@@ -1,5 +1,7 @@
 // A formula's first open leaf, by going down once: at each node into the true half where the formula is open there, else into the false
 // half. The tableau tells, so no tree is walked.
+#![tactic(auto)]
+
 ghost use Rattle.std.specs.Prelude.{◌≡◌, suc, ◌<◌, T};
 ghost use Rattle.truth.specs.Cells.{three_of};
 ghost use Rattle.page_formulas.specs.Formulas as written;

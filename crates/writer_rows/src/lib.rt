@@ -1,2 +1,4 @@
 // The rows of a no sheet.
+#![tactic(auto)]
+
 pub mod rows;

@@ -1,4 +1,6 @@
 // Both kinds of sheet, from the start of the room on, as far as they fit.
+#![tactic(auto)]
+
 ghost use Rattle.std.specs.Prelude.{◌≡◌, List, [], ◌∷◌, ◌<◌, length};
 ghost use Rattle.question.specs.Held.{Held, question_of};
 ghost use Rattle.page_questions.specs.Guarantees.{Accepted};

@@ -1,2 +1,4 @@
 // A formula's tree, by the writer's rule.
+#![tactic(auto)]
+
 pub mod trees;

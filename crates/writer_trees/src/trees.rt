@@ -32,7 +32,7 @@ use spreads::begin;
 use truth::truths::{Truth, known};
 
 // A fact as an edge.
-#[derive(Drop)]
+#[derive(Clone, Copy)]
 pub struct Edge {
     pub from: usize,
     pub to: usize,
@@ -40,7 +40,7 @@ pub struct Edge {
 }
 
 // A node on the way down: where its bytes go, the formula's last vertex, how many places are left, and the truths of those before.
-#[derive(Drop)]
+#[derive(Clone, Copy)]
 pub struct Node {
     pub spot: Spot,
     pub last: usize,
@@ -49,7 +49,7 @@ pub struct Node {
 }
 
 // Half of a branch: the node that it leads to, and the fact that it adds.
-#[derive(Drop)]
+#[derive(Clone, Copy)]
 pub struct Half {
     pub node: Node,
     pub fact: Edge,
