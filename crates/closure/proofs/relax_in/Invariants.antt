@@ -1,0 +1,11 @@
+use mathlib.Core.Path.{◌≡◌}
+use Prim.Native.Nat.{◌-◌, ◌≤◌}
+use Rattle.page_walks.specs.Sizes.{filled}
+use Rattle.page_walks.proofs.RelaxedRows.{new_row}
+use Rattle.closure.proofs.relax_in.Given as goal
+
+abbrev pub invariant-loop-u : goal.invariant-loop-u
+invariant-loop-u l = (l.u ≤ l.b) × (l.near ≡ filled (new_row l.n l.b l.a l.k l.on) l.u l.n)
+
+abbrev pub decreases-loop-u : goal.decreases-loop-u
+decreases-loop-u l = l.b - l.u

@@ -1,0 +1,22 @@
+use mathlib.Core.Path.{sym, ◌∙◌}
+use lib.ListN.{length-map}
+use Rattle.formula.proofs.Counts.{delete_count}
+use Rattle.formula.proofs.Readiness.{able}
+use Rattle.formula.proofs.formulas.formula_count.Goals as goal
+
+pub insert_count-requires : goal.insert_count-requires
+insert_count-requires c = let q = c.args.q in
+    let g = c.well_formed.0.1.1 in (
+      able q c.requires.0
+          (sym (length-map q.columns _) ∙ g.1.0.1.0.1)
+          (sym (length-map q.condition.tokens _) ∙ g.1.1.0.1.1.0.1.0.1)
+          (sym (length-map q.change.rows _) ∙ g.1.1.1.0.1.1.1.0.1.0.1)
+          (sym (length-map q.change.condition.tokens _) ∙ g.1.1.1.0.1.1.1.1.1.0.1.1.0.1.0.1)
+          (sym (length-map q.change.settings _) ∙ g.1.1.1.0.1.1.1.1.1.1.0.1.0.1)
+          c.requires.1,
+      sym (length-map q.shape.widths _) ∙ g.0.1.1.1.1.0.1.0.1,
+      c.in-Insert.is,
+    )
+
+pub returns-in-Delete : goal.returns-in-Delete
+returns-in-Delete c = delete_count c.args.q c.args.asked c.in-Delete.is

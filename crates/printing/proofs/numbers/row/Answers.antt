@@ -1,0 +1,3 @@
+use Rattle.printing.proofs.numbers.row.Goals as goal
+
+

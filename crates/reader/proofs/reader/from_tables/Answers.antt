@@ -1,0 +1,19 @@
+use mathlib.Core.Path.{sym, ap, ◌∙◌}
+use native.Mathlib.Omega.{arith}
+use Rattle.page_questions.specs.Reader.{from_tables}
+use Rattle.fields.specs.Bytes.{byte_of}
+use Rattle.page_questions.proofs.Steps.{then_good, on_bad}
+use Rattle.page_questions.proofs.FieldLaws.{is_within}
+use Rattle.reader.proofs.Chain.{reads_as}
+use Rattle.reader.proofs.reader.from_tables.Goals as goal
+
+pub from_kind-requires : goal.from_kind-requires
+from_kind-requires c = omega (arith, (is_within _ 4 _ _ _ _ _ (sym (ap byte_of c.in-Good.is) ∙ c.byte_at-b.ensures)).1)
+
+pub returns-in-Good : goal.returns-in-Good
+unfolding from_tables
+returns-in-Good c = reads_as (then_good _ (sym (ap byte_of c.in-Good.is) ∙ c.byte_at-b.ensures)) c.from_kind.ensures
+
+pub returns-in-Refused : goal.returns-in-Refused
+unfolding from_tables
+returns-in-Refused c = reads_as (on_bad _ (sym (ap byte_of c.in-Refused.is) ∙ c.byte_at-b.ensures)) c.refusal.ensures

@@ -1,0 +1,12 @@
+use mathlib.Core.Path.{◌≡◌}
+use Prim.Native.Nat.{◌-◌, ◌≤◌}
+use lib.IntN.{pos, ◌-ℤ◌}
+use lib.ListN.{get_or}
+use Rattle.page_walks.specs.Sizes.{filled}
+use Rattle.spreads.proofs.spread_row.Given as goal
+
+abbrev pub invariant-loop-v : goal.invariant-loop-v
+invariant-loop-v l = (l.v ≤ l.high) × (l.row ≡ filled (λ i. get_or l.low i (pos 0) -ℤ l.u) l.v l.count)
+
+abbrev pub decreases-loop-v : goal.decreases-loop-v
+decreases-loop-v l = l.high - l.v

@@ -1,0 +1,11 @@
+use mathlib.Core.Path.{◌≡◌}
+use Prim.Native.Nat.{◌-◌, ◌≤◌}
+use Rattle.page_walks.specs.Grid.{weight}
+use Rattle.page_walks.specs.Sizes.{filled}
+use Rattle.sums.proofs.column.Given as goal
+
+abbrev pub invariant-loop-v : goal.invariant-loop-v
+invariant-loop-v l = (l.v ≤ l.s) × (l.row ≡ filled (λ l.v. weight l.g l.v l.initial.row) l.v l.n)
+
+abbrev pub decreases-loop-v : goal.decreases-loop-v
+decreases-loop-v l = l.s - l.v

@@ -1,0 +1,67 @@
+use native.Mathlib.Omega.{arith}
+use mathlib.Core.Path.{◌≡◌, sym, ap₂, ◌∙◌, subst}
+use mathlib.Core.Bool.{true}
+use lib.IntN.{pos, ◌+ℤ◌}
+use lib.ListN.{get_or}
+use mir.Syntax.{w64}
+use mir.Val.{SFits, to_z, of_z}
+use mir.Facts.{to_z-of_z}
+use Rattle.page_meaning.specs.Limits.{most_vertices}
+use Rattle.page_walks.specs.Grid.{row, weight}
+use Rattle.page_walks.proofs.Rows.{read}
+use Rattle.program_tree.specs.Nodes.{place_of}
+use Rattle.goals.proofs.Tightening.{sum_fits}
+use Rattle.views.proofs.SeenTruths.{seen_passes, seen_fails, seen_open}
+use Rattle.views.proofs.seen_place.Goals as goal
+use Rattle.views.proofs.seen_place.Goals.{After-back-1, After-there-1}
+
+-- the numbers as the machine makes them
+there_is : (c : After-there-1) → to_z w64 (of_z w64 (get_or (row c.args.near.now c.args.right) c.args.left (pos 0))) ≡ weight c.args.near.now c.args.right c.args.left
+there_is c =
+    let a = c.args in
+    to_z-of_z {w = w64} (record { sfits = c.there-1.given }) ∙ read most_vertices a.near.now a.right a.left c.requires.1 (omega (arith, c.requires.0.few, (c.requires.0.facts true).from_is)) (omega (arith, c.requires.0.few, (c.requires.0.facts true).to_is))
+
+back_is : (c : After-back-1) → to_z w64 (of_z w64 (get_or (row c.args.near.now c.args.left) c.args.right (pos 0))) +ℤ to_z w64 (of_z w64 c.args.most) ≡ weight c.args.near.now c.args.left c.args.right +ℤ c.args.most
+back_is c =
+    let a = c.args in
+    ap₂ ◌+ℤ◌ (to_z-of_z {w = w64} (record { sfits = c.back-1.given }) ∙ read most_vertices a.near.now a.left a.right c.requires.1 (omega (arith, c.requires.0.few, (c.requires.0.facts true).to_is)) (omega (arith, c.requires.0.few, (c.requires.0.facts true).from_is))) (to_z-of_z {w = w64} c.ranges.most)
+
+pub offset_bounds-near-right : goal.offset_bounds-near-right
+offset_bounds-near-right c = omega (arith, c.requires.0.few, (c.requires.0.facts true).from_is)
+
+pub offset_bounds-near-left : goal.offset_bounds-near-left
+offset_bounds-near-left c = omega (arith, c.requires.0.few, (c.requires.0.facts true).to_is)
+
+pub bounds-near-right : goal.bounds-near-right
+bounds-near-right c = omega (arith, c.requires.0.few, (c.requires.0.facts true).from_is)
+
+pub bounds-near-left : goal.bounds-near-left
+bounds-near-left c = omega (arith, c.requires.0.few, (c.requires.0.facts true).to_is)
+
+pub returns-then-there-most : goal.returns-then-there-most
+returns-then-there-most c = let a = c.args in
+    seen_passes a.near.now (place_of a.left a.right a.most) _ _ (there_is (goal.at.returns-then-there-most c).After-there-1) (to_z-of_z {w = w64} c.ranges.most) c.if-there-most.true
+
+pub offset_bounds-near-left-2 : goal.offset_bounds-near-left-2
+offset_bounds-near-left-2 c = omega (arith, c.requires.0.few, (c.requires.0.facts true).to_is)
+
+pub offset_bounds-near-right-2 : goal.offset_bounds-near-right-2
+offset_bounds-near-right-2 c = omega (arith, c.requires.0.few, (c.requires.0.facts true).from_is)
+
+pub bounds-near-left-else-there-most : goal.bounds-near-left-else-there-most
+bounds-near-left-else-there-most c = omega (arith, c.requires.0.few, (c.requires.0.facts true).to_is)
+
+pub bounds-near-right-else-there-most : goal.bounds-near-right-else-there-most
+bounds-near-right-else-there-most c = omega (arith, c.requires.0.few, (c.requires.0.facts true).from_is)
+
+pub overflow_add-back : goal.overflow_add-back
+overflow_add-back c = let a = c.args in
+    subst (SFits w64) (sym (back_is (goal.at.overflow_add-back c).After-back-1)) (sum_fits a.last a.near.now c.requires.2 a.right a.left a.most (c.requires.0.facts true) a.left (c.requires.0.facts true).to_is)
+
+pub returns-then-back-most-lt0 : goal.returns-then-back-most-lt0
+returns-then-back-most-lt0 c = let a = c.args in
+    seen_fails a.near.now (place_of a.left a.right a.most) _ _ (there_is (goal.at.returns-then-back-most-lt0 c).After-there-1) (to_z-of_z {w = w64} c.ranges.most) c.if-there-most.false _ (to_z-of_z {w = w64} (add-if2 c) ∙ back_is (goal.at.returns-then-back-most-lt0 c).After-back-1) c.if-back-most-lt0.true
+
+pub returns : goal.returns
+returns c = let a = c.args in
+    seen_open a.near.now (place_of a.left a.right a.most) _ _ (there_is (goal.at.returns c).After-there-1) (to_z-of_z {w = w64} c.ranges.most) c.if-there-most.false _ (to_z-of_z {w = w64} (add-if2 c) ∙ back_is (goal.at.returns c).After-back-1) c.if-back-most-lt0.false
