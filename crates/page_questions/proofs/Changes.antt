@@ -33,6 +33,7 @@ fits_snoc (f ∷ gs) (w ∷ vs) g v h i = go (in_range f w) h (λ x. fits_snoc g
   where
     go : (a : Bool) → T (a && fits gs vs) → (T (fits gs vs) → T (fits (gs ++ (g ∷ [])) (vs ++ (v ∷ [])))) → T (a && fits (gs ++ (g ∷ [])) (vs ++ (v ∷ [])))
     go true x f = f x
+    go false x f = absurd x
 
 module _ (s : List ℕ) (gs : List Range) where
   -- the values so far are those of the first columns
