@@ -1,5 +1,6 @@
 use Prim.Native.Nat.{◌-◌, ◌≤◌}
 use mathlib.Core.Path.{◌≡◌}
+use mathlib.Core.List.{[]}
 use lib.ListN.{length}
 use Rattle.page_formulas.specs.Costs.{most_instructions}
 use Rattle.truth.specs.Cells.{stack_of}
