@@ -8,8 +8,11 @@ use Rattle.page_questions.proofs.FieldLaws.{is_within}
 use Rattle.changes.proofs.change.insert_at.Goals as goal
 
 pub rows_at-requires : goal.rows_at-requires
-rows_at-requires c = let pre = c.requires in
-    (pre.0, (pre.1, omega (arith, (is_within _ 4 _ _ _ _ _ (sym (ap byte_of c.in-Good.is) ∙ c.byte_at-b.ensures)).1)))
+rows_at-requires c = record {
+      width_bound = c.requires.width_bound;
+      columns_len = c.requires.columns_len;
+      n_le_most_rows = omega (arith, (is_within _ 4 _ _ _ _ _ (sym (ap byte_of c.in-Good.is) ∙ c.byte_at-b.ensures)).1);
+    }
 
 pub inserted-requires : goal.inserted-requires
 inserted-requires c = omega (arith, (is_within _ 4 _ _ _ _ _ (sym (ap byte_of c.in-Good.is) ∙ c.byte_at-b.ensures)).1)

@@ -8,7 +8,7 @@ use Rattle.changes.proofs.modes.choice_at.Goals as goal
 pub returns-in-0 : goal.returns-in-0
 unfolding choice_at
 returns-in-0 c = rw c.in-0.is
-    (c.chosen.ensures ∙ ap (λ o. and_then o (chosen_by 0)) c.Operand-at.ensures ∙ operands_then _ _ _ _ _ _ _ _ (chosen_by 0))
+    (c.chosen.ensures ∙ ap (λ o. and_then o (chosen_by 0)) c.operand_at.ensures ∙ operands_then _ _ _ _ _ _ _ _ (chosen_by 0))
 
 pub returns-in-1 : goal.returns-in-1
 unfolding choice_at

@@ -1,3 +1,4 @@
+use mathlib.Core.List.{[]}
 use Prim.Native.Nat.{◌-◌}
 use Rattle.page_meaning.specs.Limits.{most_columns}
 use Rattle.page_questions.specs.Reader.{many, mode_at}

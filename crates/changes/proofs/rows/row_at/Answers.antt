@@ -10,27 +10,27 @@ use lib.IntN.{ℤ}
 use Rattle.fields.specs.Bytes.{number_of}
 use Rattle.question.specs.Parts.{ranges_at}
 use Rattle.page_questions.proofs.Loops.{going_start, going_on, going_bad, going_end}
-use mir.Syntax.{w64}
+use mir.Syntax.{w32}
 use Rattle.changes.proofs.rows.row_at.Goals as goal
 use Rattle.changes.proofs.rows.row_at.Goals.{After-number_at-v}
 
 -- what the code reads as a value is the field that the definition means
 field : (c : After-number_at-v)
     → let a = c.args in
-    number_of c.number_at-v.result ≡ value_at a.s.now (ranges_at a.t2 a.first a.width) (map (λ (v : ℤ). v) (take c.loop-i.i c.loop-i.values)) c.loop-i.next
+    number_of c.number_at-v.result ≡ value_at a.s.now (ranges_at a.columns a.first a.width) (map (λ (v : ℤ). v) (take c.loop-i.i c.loop-i.values)) c.loop-i.next
 field c =
     let a = c.args in
     let inside = c.loop-i-test.true in
     c.number_at-v.ensures
-    ∙ rw (to_z-of_z {w = w64} (record { sfits = c.struct_told-in-loop-i-1.given.0.1 }), to_z-of_z {w = w64} (record { sfits = c.struct_told-in-loop-i-1.given.1.0.1 }))
-    (this_value a.s.now a.t2 a.first a.width c.loop-i.i c.loop-i.next c.loop-i.values inside
+    ∙ rw (to_z-of_z {w = w32} (record { sfits = c.struct_told-in-loop-i-1.given.0.1 }), to_z-of_z {w = w32} (record { sfits = c.struct_told-in-loop-i-1.given.1.0.1 }))
+    (this_value a.s.now a.columns a.first a.width c.loop-i.i c.loop-i.next c.loop-i.values inside
     (omega (arith, c.loop-i.invariant.sized, c.requires.width_bound, inside)))
 
 pub loop-i-init : goal.loop-i-init
 loop-i-init c = going_start _ _ most_columns _ _ _ refl
 
 pub loop-i-preserved : goal.loop-i-preserved
-loop-i-preserved c = rw (to_z-of_z {w = w64} (record { sfits = c.in-Good.known_told-1-own.given.0.1 }))
+loop-i-preserved c = rw (to_z-of_z {w = w32} (record { sfits = c.in-Good.known_told-1-own.given.0.1 }))
     (going_on _ _ _ _ _ _ _ _ c.loop-i.invariant c.loop-i-test.true _ _ (omega (arith, c.requires.width_bound))
     (sym (ap number_of c.in-Good.is) ∙ field (goal.at.loop-i-preserved c).After-number_at-v))
 
@@ -39,7 +39,7 @@ unfolding row_at
 returns-in-Refused c = let a = c.args in
     record {
       meaning =
-          rw (ranges_length a.t2 a.first a.width (omega (arith, c.requires.width_bound, c.requires.columns_len)))
+          rw (ranges_length a.columns a.first a.width (omega (arith, c.requires.width_bound, c.requires.columns_len)))
           (going_bad _ _ _ _ _ _ _ _ c.loop-i.invariant c.loop-i-test.true _ _
           (sym (ap number_of c.in-Refused.is) ∙ field (goal.at.returns-in-Refused c).After-number_at-v));
     }
@@ -49,6 +49,6 @@ unfolding row_at
 returns c = let a = c.args in
     record {
       meaning =
-          rw (ranges_length a.t2 a.first a.width (omega (arith, c.requires.width_bound, c.requires.columns_len)))
+          rw (ranges_length a.columns a.first a.width (omega (arith, c.requires.width_bound, c.requires.columns_len)))
           (rw map-id at (going_end _ _ _ _ _ _ _ _ c.loop-i.invariant c.loop-i-test.false));
     }

@@ -1,3 +1,4 @@
+use mathlib.Core.List.{[]}
 use Rattle.page_meaning.specs.Limits.{most_columns}
 use Rattle.page_questions.specs.Reader.{many, value_at}
 use Prim.Native.Nat.{◌-◌}

@@ -1,3 +1,4 @@
+use mathlib.Core.List.{[]}
 use Rattle.page_meaning.specs.Limits.{most_rows}
 use Prim.Native.Nat.{◌-◌}
 use Rattle.page_questions.specs.Reader.{many, row_at}

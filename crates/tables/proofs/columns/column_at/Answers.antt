@@ -4,13 +4,13 @@ use Rattle.page_questions.specs.Reader.{column_at}
 use Rattle.fields.specs.Bytes.{number_of}
 use Rattle.tables.specs.Shapes.{high_at}
 use Rattle.page_questions.proofs.Steps.{on_good, on_bad}
-use mir.Syntax.{w64}
+use mir.Syntax.{w32}
 use Rattle.tables.proofs.columns.column_at.Goals as goal
 
 pub returns-in-Good : goal.returns-in-Good
 unfolding column_at high_at
 returns-in-Good c = on_good _ (sym (ap number_of c.in-Good.is) ∙ c.number_at-v.ensures)
-    (rw (to_z-of_z {w = w64} (record { sfits = c.in-Good.known_told-1-own.given.0.1 })) at c.high_at.ensures)
+    (rw (to_z-of_z {w = w32} (record { sfits = c.in-Good.known_told-1-own.given.0.1 })) at c.high_at.ensures)
 
 pub returns-in-Refused : goal.returns-in-Refused
 unfolding column_at

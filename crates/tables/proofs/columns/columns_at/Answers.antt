@@ -9,13 +9,13 @@ loop-i-init c = going_start _ _ most_columns _ _ _ refl
 
 pub loop-i-preserved : goal.loop-i-preserved
 loop-i-preserved c = going_on _ _ _ _ _ _ _ _ c.loop-i.invariant c.loop-i-test.true _ _ c.requires
-    (sym (ap column_meant c.in-Good.is) ∙ c.column_at_lem.ensures)
+    (sym (ap column_meant c.in-Good.is) ∙ c.column_at-read.ensures)
 
 pub returns-in-Refused : goal.returns-in-Refused
 returns-in-Refused c = record {
       meaning =
           going_bad _ _ _ _ _ _ _ _ c.loop-i.invariant c.loop-i-test.true _ _
-          (sym (ap column_meant c.in-Refused.is) ∙ c.column_at_lem.ensures);
+          (sym (ap column_meant c.in-Refused.is) ∙ c.column_at-read.ensures);
       sized = c.loop-i.invariant.sized;
     }
 

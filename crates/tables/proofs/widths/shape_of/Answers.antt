@@ -9,17 +9,19 @@ pub returns : goal.returns
 returns c = let a = c.args in
     let k = c.requires.counted in
     let l = c.requires.changed_lt_n in
-    let e = sym (get_or-take a.n a.t1 a.changed 0 l) in (
-      record {
+    let e = sym (get_or-take a.n a.widths a.changed 0 l) in
+    record {
+      shape_held = record {
         some_table = omega (arith, l);
         few_tables = k.few;
         changed = l;
-        first = c.first_of.ensures ∙ ap total (sym (take-take a.changed a.n a.t1 (omega (arith, l))));
+        first = c.first_of.ensures ∙ ap total (sym (take-take a.changed a.n a.widths (omega (arith, l))));
         width = e;
         total = k.sum;
         some_column = k.each a.changed l;
-        inside = omega (arith, inside a.t1 a.changed a.n l (omega (arith, l, k.sized, k.few)), c.first_of.ensures, k.sum);
+        inside = omega (arith, inside a.widths a.changed a.n l (omega (arith, l, k.sized, k.few)), c.first_of.ensures, k.sum);
         few_columns = k.small;
-      },
-      (refl, refl),
-    )
+      };
+      result_value = refl;
+      changed_value = refl;
+    }
