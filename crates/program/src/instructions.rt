@@ -54,7 +54,7 @@ pub fn emit_place(
     k: i64,
 ) -> End
     requires { Room (program_of kinds.old left.old right.old most.old at) 1 1 }
-    ensures { Builds (program_of kinds.old left.entry.now right.old most.old at) (program_of kinds.new left.exit.now right.new most.new result) 1 1 (place (record { left = a; right = b; most = k }) ∷ []) }
+    ensures { Builds (program_of kinds.old left.old right.old most.old at) (program_of kinds.new left.new right.new most.new result) 1 1 (place (record { left = a; right = b; most = k }) ∷ []) }
 {
     let n = at.count;
     let m = at.places;

@@ -1,3 +1,4 @@
+use mathlib.Core.List.{[]}
 use Rattle.vertices.proofs.Rows.{zero_spans}
 use Rattle.vertices.proofs.vertices.Goals as goal
 

@@ -15,17 +15,17 @@ use Rattle.formula_claims.proofs.claims.claim_of.Goals as goal
 pub condition-requires : goal.condition-requires
 condition-requires c = let d = c.args.d in
     let e = sym c.view-old.ensures in
-    (rw (ap claim_of c.in-Listed.is) c c.requires.0, subst Usable e (view_usable d c.requires.1 (d.pairs && c.args.second) false), subst (λ v. Compilable (Has v) d.listed) e c.requires.1.listed)
+    (rw (ap claim_of c.in-Listed.is) at c.requires.0, subst Usable e (view_usable d c.requires.1 (d.pairs && c.args.second) false), subst (λ v. Compilable (Has v) d.listed) e c.requires.1.listed)
 
 pub condition-requires-in-Relisted : goal.condition-requires-in-Relisted
 condition-requires-in-Relisted c = let d = c.args.d in
     let e = sym c.view-new.ensures in
-    (rw (ap claim_of c.in-Relisted.is) c c.requires.0, subst Usable e (view_usable d c.requires.1 (d.pairs && c.args.second) true), subst (λ v. Compilable (Has v) d.listed) e c.requires.1.listed)
+    (rw (ap claim_of c.in-Relisted.is) at c.requires.0, subst Usable e (view_usable d c.requires.1 (d.pairs && c.args.second) true), subst (λ v. Compilable (Has v) d.listed) e c.requires.1.listed)
 
 pub condition-requires-in-Chosen : goal.condition-requires-in-Chosen
 condition-requires-in-Chosen c = let d = c.args.d in
     let e = sym c.view-old-in-Chosen.ensures in
-    (rw (ap claim_of c.in-Chosen.is) c c.requires.0, subst Usable e (view_usable d c.requires.1 (d.pairs && c.args.second) false), subst (λ v. Compilable (Has v) d.chosen) e c.requires.1.chosen)
+    (rw (ap claim_of c.in-Chosen.is) at c.requires.0, subst Usable e (view_usable d c.requires.1 (d.pairs && c.args.second) false), subst (λ v. Compilable (Has v) d.chosen) e c.requires.1.chosen)
 
 pub in_range-requires : goal.in_range-requires
 in_range-requires c = (rw (ap claim_of c.in-Fitting.is) at c.requires.0, c.requires.1)
@@ -43,7 +43,7 @@ pub differs-requires : goal.differs-requires
 differs-requires c = let d = c.args.d in
     let a = c.view-new-in-Differing.ensures in
     let b = c.view-than.ensures in
-    (rw (ap claim_of c.in-Differing.is) c c.requires.0, subst Usable (sym a) (view_usable d c.requires.1 (d.pairs && c.args.second) true), subst Usable (sym b) (view_usable d c.requires.1 _ _), ap (λ v. v.total) b ∙ sym (ap (λ v. v.total) a))
+    (rw (ap claim_of c.in-Differing.is) at c.requires.0, subst Usable (sym a) (view_usable d c.requires.1 (d.pairs && c.args.second) true), subst Usable (sym b) (view_usable d c.requires.1 _ _), ap (λ v. v.total) b ∙ sym (ap (λ v. v.total) a))
 
 pub returns-in-Listed : goal.returns-in-Listed
 returns-in-Listed c = let d = c.args.d in

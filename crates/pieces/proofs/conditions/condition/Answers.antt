@@ -10,21 +10,21 @@ pub returns-then-n-eq0 : goal.returns-then-n-eq0
 returns-then-n-eq0 c = rw c.if-n-eq0.true (within (omega arith) (omega arith) c.emit.ensures)
 
 pub loop-i-init : goal.loop-i-init
-loop-i-init c = (omega arith, tokens_begin c.args.s c.args.t7 c.requires.2 _ c.requires.0)
+loop-i-init c = (omega arith, tokens_begin c.args.s c.args.c c.requires.2 _ c.requires.0)
 
 pub token-next-requires : goal.token-next-requires
 token-next-requires c = let l = c.loop-i in
     let h = c.loop-i-test.true in (
-      token_room c.args.s c.args.t7 c.requires.2 l.i h l.invariant.1 c.requires.0,
+      token_room c.args.s c.args.c c.requires.2 l.i h l.invariant.1 c.requires.0,
       c.requires.1,
-      token_uses c.args.s c.args.t7 c.requires.2 l.i h,
+      token_uses c.args.s c.args.c c.requires.2 l.i h,
     )
 
 pub loop-i-preserved : goal.loop-i-preserved
 loop-i-preserved c = let l = c.loop-i in
     let h = c.loop-i-test.true in
-    (omega arith, token_more c.args.s c.args.t7 c.requires.2 l.i h l.invariant.1 c.token-next.ensures)
+    (omega arith, token_more c.args.s c.args.c c.requires.2 l.i h l.invariant.1 c.token-next.ensures)
 
 pub returns : goal.returns
 returns c = let l = c.loop-i in
-    tokens_end c.args.s c.args.t7 c.requires.2 _ _ l.i c.loop-i-test.false (omega arith) l.invariant.1
+    tokens_end c.args.s c.args.c c.requires.2 _ _ l.i c.loop-i-test.false (omega arith) l.invariant.1

@@ -4,11 +4,11 @@ use Rattle.sights.proofs.Sightings.{stands_near}
 use Rattle.pieces.proofs.conditions.token.Goals as goal
 
 pub term_at-l-requires : goal.term_at-l-requires
-term_at-l-requires c = let uses = rw (ap kind_of c.in-Compare.is) c c.requires.2 in
+term_at-l-requires c = let uses = rw (ap kind_of c.in-Compare.is) at c.requires.2 in
     (c.requires.1, uses.0)
 
 pub side_at-r-requires : goal.side_at-r-requires
-side_at-r-requires c = let uses = rw (ap kind_of c.in-Compare.is) c c.requires.2 in
+side_at-r-requires c = let uses = rw (ap kind_of c.in-Compare.is) at c.requires.2 in
     (c.requires.1, uses.1)
 
 pub compare-requires : goal.compare-requires

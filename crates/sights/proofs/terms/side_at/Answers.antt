@@ -8,7 +8,7 @@ use Rattle.sights.proofs.Sightings.{near_constant, plus_fits, plus_is, near_plus
 use Rattle.sights.proofs.terms.side_at.Goals as goal
 
 pub term_at-t-requires : goal.term_at-t-requires
-term_at-t-requires c = (c.requires.0, rw (ap side_of c.in-Column.is) c c.requires.1)
+term_at-t-requires c = (c.requires.0, rw (ap side_of c.in-Column.is) at c.requires.1)
 
 pub sum-requires : goal.sum-requires
 sum-requires c = let t = c.term_at-t in

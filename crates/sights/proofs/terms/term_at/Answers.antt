@@ -8,11 +8,11 @@ use borrow.Author.Rules.{rules}
 use Rattle.sights.proofs.terms.term_at.Goals as goal
 
 pub vertex_in-requires-in-Shift : goal.vertex_in-requires-in-Shift
-vertex_in-requires-in-Shift c = (search rules, rw (ap mode_of c.in-Shift.is) at c.mode_at_lem.ensures.1)
+vertex_in-requires-in-Shift c = (search rules, rw (ap mode_of c.in-Shift.is) at c.mode_at-mode.ensures.1)
 
 pub returns-in-Keep : goal.returns-in-Keep
 returns-in-Keep c = let a = c.args in
-    stands_keep a.s a.i c.vertex_in.result (sym c.mode_at_lem.ensures.0 ∙ ap mode_of c.in-Keep.is) c.vertex_in.ensures
+    stands_keep a.s a.i c.vertex_in.result (sym c.mode_at-mode.ensures.0 ∙ ap mode_of c.in-Keep.is) c.vertex_in.ensures
 
 pub returns-in-Become : goal.returns-in-Become
 returns-in-Become c = let a = c.args in
@@ -20,7 +20,7 @@ returns-in-Become c = let a = c.args in
     let f : SFits w32 k = record { sfits = c.in-Become.known_told-1-own.given.0.1 } in
     let g : SFits w64 c.wide.result = record { sfits = c.wide.type_inv } in
     let e : c.wide.result ≡ k = simp (to_z-of_z, f) at c.wide.ensures in
-    rw (to_z-of_z g, e) (stands_become a.s a.i k (sym c.mode_at_lem.ensures.0 ∙ ap mode_of c.in-Become.is) f)
+    rw (to_z-of_z g, e) (stands_become a.s a.i k (sym c.mode_at-mode.ensures.0 ∙ ap mode_of c.in-Become.is) f)
 
 pub returns-in-Shift : goal.returns-in-Shift
 returns-in-Shift c = let a = c.args in
@@ -29,4 +29,4 @@ returns-in-Shift c = let a = c.args in
     let f : SFits w32 k = record { sfits = c.in-Shift.known_told-in-Shift-1-own.given.1.0.1 } in
     let g : SFits w64 c.wide-in-Shift.result = record { sfits = c.wide-in-Shift.type_inv } in
     let e : c.wide-in-Shift.result ≡ k = simp (to_z-of_z, f) at c.wide-in-Shift.ensures in
-    rw (to_z-of_z g, e) (stands_shift a.s a.i c.vertex_in-in-Shift.result j k (sym c.mode_at_lem.ensures.0 ∙ ap mode_of c.in-Shift.is) c.vertex_in-in-Shift.ensures f)
+    rw (to_z-of_z g, e) (stands_shift a.s a.i c.vertex_in-in-Shift.result j k (sym c.mode_at-mode.ensures.0 ∙ ap mode_of c.in-Shift.is) c.vertex_in-in-Shift.ensures f)

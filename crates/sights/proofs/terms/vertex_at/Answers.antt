@@ -3,4 +3,4 @@ use Rattle.sights.proofs.Sightings.{row_vertex}
 use Rattle.sights.proofs.terms.vertex_at.Goals as goal
 
 pub returns : goal.returns
-returns c = c.vertex_of.ensures ∙ row_vertex c.args.t1 c.requires.0 c.args.second c.args.i c.requires.1
+returns c = c.vertex_of.ensures ∙ row_vertex c.args.q c.requires.0 c.args.second c.args.i c.requires.1
