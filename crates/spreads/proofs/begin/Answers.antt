@@ -38,10 +38,11 @@ low_is c = to_z-of_z {w = w64} (record { sfits = c.end_at-low.type_inv }) ∙ c.
 
 pub spread_row-requires : goal.spread_row-requires
 spread_row-requires c = let l = c.loop-u in
-    let hu = c.loop-u-test.true in (
-      (c.requires.ranged.few, hu, l.invariant.1.columns l.u (omega (arith, hu, c.requires.ranged.few))),
-      λ v hv. rw (high_is (goal.at.spread_row-requires c).After-ends_in v hv, low_is (goal.at.spread_row-requires c).After-end_at-low) (spread_fits _ _ _ _ c.requires.ranged l.u v hu hv),
-    )
+    let hu = c.loop-u-test.true in
+    record {
+      count_le_most_vertices = (c.requires.ranged.few, hu, l.invariant.1.columns l.u (omega (arith, hu, c.requires.ranged.few)));
+      by_index = λ v hv. rw (high_is (goal.at.spread_row-requires c).After-ends_in v hv, low_is (goal.at.spread_row-requires c).After-end_at-low) (spread_fits _ _ _ _ c.requires.ranged l.u v hu hv);
+    }
 
 pub overflow_add-u : goal.overflow_add-u
 overflow_add-u c = omega (arith, c.loop-u-test.true, c.requires.ranged.few)
