@@ -18,28 +18,28 @@ loop-i-init c = (search rules, rw c.blank-g.ensures (blank_within most_vertices)
 pub confine-requires : goal.confine-requires
 confine-requires c = let a = c.args in
     let i = c.loop-i.i in
-    (search rules, rw (to_z-of_z {w = w64} (record { sfits = c.confine-arg-1.given })) (wider (get_or a.t2 (i + 1) (pos 0)) (small_low a.t1 a.t2 a.t3 c.requires i c.if-shown-v.true)), c.loop-i.invariant.2)
+    (search rules, rw (to_z-of_z {w = w64} (record { sfits = c.confine-arg-1.given })) (wider (get_or a.lo (i + 1) (pos 0)) (small_low a.shown a.lo a.hi c.requires i c.if-shown-v.true)), c.loop-i.invariant.2)
 
 pub loop-i-preserved-then-shown-v : goal.loop-i-preserved-then-shown-v
 loop-i-preserved-then-shown-v c = let a = c.args in
     let l = c.loop-i in
     let t = c.if-shown-v.true in
-    let low : SFits w64 (get_or a.t2 (l.i + 1) (pos 0)) = record { sfits = c.confine-arg-1.given } in
-    let high : SFits w64 (get_or a.t3 (l.i + 1) (pos 0)) = record { sfits = c.confine-arg-then-shown-v-1.given } in
+    let low : SFits w64 (get_or a.lo (l.i + 1) (pos 0)) = record { sfits = c.confine-arg-1.given } in
+    let high : SFits w64 (get_or a.hi (l.i + 1) (pos 0)) = record { sfits = c.confine-arg-then-shown-v-1.given } in
     let e = rw (to_z-of_z low, to_z-of_z high) at c.confine.ensures in
     rw e (
       search rules,
-      confine_within most_vertices l.g (l.i + 1) (record { lo = get_or a.t2 (l.i + 1) (pos 0); hi = get_or a.t3 (l.i + 1) (pos 0) }) l.invariant.1 (small_low a.t1 a.t2 a.t3 c.requires l.i t) (small_high a.t1 a.t2 a.t3 c.requires l.i t),
-      confine_sized most_vertices l.g (l.i + 1) (record { lo = get_or a.t2 (l.i + 1) (pos 0); hi = get_or a.t3 (l.i + 1) (pos 0) }) l.invariant.2,
-      λ rs z. start_on rs a.t1 a.t2 a.t3 z l.g l.i t ∙ l.invariant.3 rs z,
+      confine_within most_vertices l.g (l.i + 1) (record { lo = get_or a.lo (l.i + 1) (pos 0); hi = get_or a.hi (l.i + 1) (pos 0) }) l.invariant.1 (small_low a.shown a.lo a.hi c.requires l.i t) (small_high a.shown a.lo a.hi c.requires l.i t),
+      confine_sized most_vertices l.g (l.i + 1) (record { lo = get_or a.lo (l.i + 1) (pos 0); hi = get_or a.hi (l.i + 1) (pos 0) }) l.invariant.2,
+      λ rs z. start_on rs a.shown a.lo a.hi z l.g l.i t ∙ l.invariant.3 rs z,
     )
 
 pub loop-i-preserved : goal.loop-i-preserved
 loop-i-preserved c = let l = c.loop-i in
     let a = c.args in
-    (search rules, l.invariant.1, l.invariant.2, λ rs s. start_past rs a.t1 a.t2 a.t3 s l.g l.i c.if-shown-v.false ∙ l.invariant.3 rs s)
+    (search rules, l.invariant.1, l.invariant.2, λ rs s. start_past rs a.shown a.lo a.hi s l.g l.i c.if-shown-v.false ∙ l.invariant.3 rs s)
 
 pub returns : goal.returns
 returns c = let l = c.loop-i in
     let a = c.args in
-    record { meaning = λ rs s. sym (start_end rs a.t1 a.t2 a.t3 s l.g l.i (omega (arith, c.loop-i-test.false))) ∙ l.invariant.3 rs s; small = l.invariant.1 }
+    record { meaning = λ rs s. sym (start_end rs a.shown a.lo a.hi s l.g l.i (omega (arith, c.loop-i-test.false))) ∙ l.invariant.3 rs s; small = l.invariant.1 }

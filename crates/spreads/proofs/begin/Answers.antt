@@ -29,7 +29,7 @@ pub bounds-near-u : goal.bounds-near-u
 bounds-near-u c = omega (arith, c.loop-u-test.true, c.requires.ranged.few)
 
 -- the ends that are read
-high_is : (c : After-ends_in) → let a = c.args in (v : ℕ) → v < a.count → get_or c.ends_in.new.0 v (pos 0) ≡ end_of a.flags.now a.hi.now v
+high_is : (c : After-ends_in) → let a = c.args in (v : ℕ) → v < a.count → get_or c.ends_in.new.into v (pos 0) ≡ end_of a.flags.now a.hi.now v
 high_is c v hv =
     rw c.ends_in.ensures (filled_at _ c.args.count (replicate most_vertices (pos 0)) v (pos 0) hv (omega (arith, c.requires.ranged.few, length-replicate most_vertices (pos 0))))
 
@@ -38,10 +38,11 @@ low_is c = to_z-of_z {w = w64} (record { sfits = c.end_at-low.type_inv }) ∙ c.
 
 pub spread_row-requires : goal.spread_row-requires
 spread_row-requires c = let l = c.loop-u in
-    let hu = c.loop-u-test.true in (
-      (c.requires.ranged.few, hu, l.invariant.1.columns l.u (omega (arith, hu, c.requires.ranged.few))),
-      λ v hv. rw (high_is (goal.at.spread_row-requires c).After-ends_in v hv, low_is (goal.at.spread_row-requires c).After-end_at-low) (spread_fits _ _ _ _ c.requires.ranged l.u v hu hv),
-    )
+    let hu = c.loop-u-test.true in
+    record {
+      count_le_most_vertices = (c.requires.ranged.few, hu, l.invariant.1.columns l.u (omega (arith, hu, c.requires.ranged.few)));
+      by_index = λ v hv. rw (high_is (goal.at.spread_row-requires c).After-ends_in v hv, low_is (goal.at.spread_row-requires c).After-end_at-low) (spread_fits _ _ _ _ c.requires.ranged l.u v hu hv);
+    }
 
 pub overflow_add-u : goal.overflow_add-u
 overflow_add-u c = omega (arith, c.loop-u-test.true, c.requires.ranged.few)
@@ -53,13 +54,13 @@ pub loop-u-preserved : goal.loop-u-preserved
 loop-u-preserved c = let l = c.loop-u in
     let hu = c.loop-u-test.true in
     let few = c.requires.ranged.few in
-    let long : length c.Spread-row.new.0 ≡ most_vertices = c.Spread-row.ensures.0 in (
+    let long : length c.spread_row.new.row ≡ most_vertices = c.spread_row.ensures.row_len in (
       omega (arith, hu),
       row_sized most_vertices l.near l.u _ l.invariant.1 (omega (arith, hu, few)) long,
-      row_more most_vertices l.near l.u _ l.invariant.1 (omega (arith, hu, few)) long (spread _ _ _) c.args.count few l.invariant.2 (λ v hv. c.Spread-row.ensures.1 v hv ∙ ap₂ (λ (x y : ℤ). apart x y l.u v) (high_is (goal.at.loop-u-preserved c).After-ends_in v hv) (low_is (goal.at.loop-u-preserved c).After-end_at-low)),
+      row_more most_vertices l.near l.u _ l.invariant.1 (omega (arith, hu, few)) long (spread _ _ _) c.args.count few l.invariant.2 (λ v hv. c.spread_row.ensures.by_index_2 v hv ∙ ap₂ (λ (x y : ℤ). apart x y l.u v) (high_is (goal.at.loop-u-preserved c).After-ends_in v hv) (low_is (goal.at.loop-u-preserved c).After-end_at-low)),
     )
 
 pub returns : goal.returns
 returns c = let l = c.loop-u in
     let all : l.u ≡ c.args.count = omega (arith, c.loop-u-test.false, l.invariant.0) in
-    (l.invariant.1, λ u v hu. l.invariant.2 u v (omega arith))
+    record { sized_2 = l.invariant.1; by_index = λ u v hu. l.invariant.2 u v (omega arith) }

@@ -7,7 +7,7 @@ use Rattle.spreads.specs.Spread.{spread}
 use Rattle.spreads.proofs.begin.Given as goal
 
 abbrev pub invariant-loop-u : goal.invariant-loop-u
-invariant-loop-u l = (l.u ≤ l.flags) × Sized most_vertices l.near × ((r v : ℕ) → r < l.u → v < l.flags → weight l.near r v ≡ spread l.lo l.hi l.high r v)
+invariant-loop-u l = (l.u ≤ l.count) × Sized most_vertices l.near × ((r v : ℕ) → r < l.u → v < l.count → weight l.near r v ≡ spread l.flags l.lo l.hi r v)
 
 abbrev pub decreases-loop-u : goal.decreases-loop-u
-decreases-loop-u l = l.flags - l.u
+decreases-loop-u l = l.count - l.u

@@ -36,4 +36,4 @@ pub returns : goal.returns
 returns c = let l = c.loop-v in
     let all : l.v ≡ c.args.count = omega (arith, c.loop-v-test.false, l.invariant.0) in
     let is : l.row ≡ filled (λ i. get_or c.args.high.now i (pos 0) -ℤ c.args.low) c.args.count c.args.row.now = rw all at (simp (to_z-of_z, c.ranges.low) at l.invariant.1) in
-    rw is (diagonal_long _ _ _ _ ∙ c.requires.count_le_most_vertices.2, λ v hv. diagonal _ _ c.args.row.now c.args.u v hv (omega (arith, c.requires.count_le_most_vertices)))
+    rw is (record { row_len = diagonal_long _ _ _ _ ∙ c.requires.count_le_most_vertices.2; by_index_2 = λ v hv. diagonal _ _ c.args.row.now c.args.u v hv (omega (arith, c.requires.count_le_most_vertices)) })
