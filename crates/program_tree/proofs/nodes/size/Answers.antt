@@ -10,15 +10,15 @@ use Rattle.program_tree.proofs.nodes.size.Goals as goal
 use Rattle.program_tree.proofs.nodes.size.Goals.{After-size_of, Then-k-eq3}
 
 -- one operand; two
-one : (c : Then-k-eq3) → c.type_size.result + 1 ≡ size_of c.args.kinds.now (column 1 c.args.nodes.now) c.args.i
+one : (c : Then-k-eq3) → c.size_of-last.result + 1 ≡ size_of c.args.kinds.now (column 1 c.args.nodes.now) c.args.i
 one c =
     let a = c.args in
-    ap (λ m. m + 1) c.type_size.ensures ∙ size_not (get_or a.kinds.now a.i 0) (cell a.nodes.now (first_in a.nodes.now a.i) 1) (cell a.nodes.now (a.i - 1) 1) c.if-k-eq3.true ∙ size_in a.kinds.now a.nodes.now a.i
+    ap (λ m. m + 1) c.size_of-last.ensures ∙ size_not (get_or a.kinds.now a.i 0) (cell a.nodes.now (first_in a.nodes.now a.i) 1) (cell a.nodes.now (a.i - 1) 1) c.if-k-eq3.true ∙ size_in a.kinds.now a.nodes.now a.i
 
-sum : (c : After-size_of) → c.size_of.result + c.type_size.result + 1 ≡ size_of c.args.kinds.now (column 1 c.args.nodes.now) c.args.i
+sum : (c : After-size_of) → c.size_of.result + c.size_of-last.result + 1 ≡ size_of c.args.kinds.now (column 1 c.args.nodes.now) c.args.i
 sum c =
     let a = c.args in
-    ap (λ m. m + c.type_size.result + 1) (c.size_of.ensures ∙ ap (λ m. cell a.nodes.now m 1) c.first_of.ensures) ∙ ap (λ m. cell a.nodes.now (first_in a.nodes.now a.i) 1 + m + 1) c.type_size.ensures ∙ size_two (get_or a.kinds.now a.i 0) (omega (arith, c.if-k-eq0.false)) (omega (arith, c.if-k-ge4.false, c.if-k-eq3.false)) _ _ ∙ size_in a.kinds.now a.nodes.now a.i
+    ap (λ m. m + c.size_of-last.result + 1) (c.size_of.ensures ∙ ap (λ m. cell a.nodes.now m 1) c.first_of.ensures) ∙ ap (λ m. cell a.nodes.now (first_in a.nodes.now a.i) 1 + m + 1) c.size_of-last.ensures ∙ size_two (get_or a.kinds.now a.i 0) (omega (arith, c.if-k-eq0.false)) (omega (arith, c.if-k-ge4.false, c.if-k-eq3.false)) _ _ ∙ size_in a.kinds.now a.nodes.now a.i
 
 pub returns-then-k-eq0 : goal.returns-then-k-eq0
 returns-then-k-eq0 c = size_place _ _ _ c.if-k-eq0.true
