@@ -5,7 +5,7 @@ use native.Mathlib.Omega.{arith}
 use lib.IntN.{pos, negsuc, ◌-ℤ◌}
 use lib.Signed.{lt_z, mag}
 use mir.Syntax.{w32, w64}
-use mir.Val.{to_z, of_z}
+use mir.Val.{to_z, of_z, SFits}
 use mir.Facts.{to_z-of_z}
 use Rattle.ints.proofs.Bits.{bits_below, bits_above}
 use Rattle.writer_rows.proofs.rows.low_bits.Goals as goal
@@ -26,12 +26,15 @@ part c = simp (to_z-of_z, c.ranges.z) (bits_below c.args.z (taken c)).0
 kept : (c : Else-z-lt0) → to_z w64 (of_z w64 c.args.z) ≡ pos (mag c.args.z)
 kept c = to_z-of_z c.ranges.z ∙ bits_above c.args.z (left c)
 
+part_fits : (c : Then-z-lt0) → SFits w64 (negsuc 0 -ℤ to_z w64 (of_z w64 c.args.z))
+part_fits c = rw (part c) (record { sfits = c.ranges.z.sfits })
+
 pub overflow_sub-m : goal.overflow_sub-m
-overflow_sub-m c = rw (part (goal.at.overflow_sub-m c).Then-z-lt0) (record { sfits = c.ranges.z.sfits })
+overflow_sub-m c = part_fits (goal.at.overflow_sub-m c).Then-z-lt0
 
 -- the number that is taken from 2 ^ 32 - 1
 made : (c : Then-z-lt0) → to_z w64 (of_z w64 (negsuc 0 -ℤ to_z w64 (of_z w64 c.args.z))) ≡ pos (mag c.args.z)
-made c = to_z-of_z (sub-m c) ∙ part c
+made c = to_z-of_z {w = w64} (part_fits c) ∙ part c
 
 pub overflow_cast-m : goal.overflow_cast-m
 overflow_cast-m c = rw (made (goal.at.overflow_cast-m c).Then-z-lt0) (tt, omega (arith, c.ranges.z.sfits))

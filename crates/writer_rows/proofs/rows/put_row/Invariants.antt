@@ -9,7 +9,7 @@ use Rattle.writer_rows.specs.Rows.{row_for}
 use Rattle.writer_rows.proofs.rows.put_row.Given as goal
 
 abbrev pub invariant-loop-c : goal.invariant-loop-c
-invariant-loop-c l = (l.c ≤ l.initial.room) × (length l.room ≡ length l.q) × (puts (filling l.room l.next) (bytes_of_row (drop l.c (row_for (question_of l.i) l.second l.values (look l.n)))) ≡ puts (filling l.q l.initial.next) (bytes_of_row (row_for (question_of l.i) l.second l.values (look l.n))))
+invariant-loop-c l = (l.c ≤ l.n) × (length l.room ≡ length l.initial.room) × (puts (filling l.room l.next) (bytes_of_row (drop l.c (row_for (question_of l.q) l.i l.second (look l.values)))) ≡ puts (filling l.initial.room l.initial.next) (bytes_of_row (row_for (question_of l.q) l.i l.second (look l.values))))
 
 abbrev pub decreases-loop-c : goal.decreases-loop-c
-decreases-loop-c l = l.initial.room - l.c
+decreases-loop-c l = l.n - l.c
