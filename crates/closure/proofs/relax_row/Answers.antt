@@ -11,9 +11,8 @@ use mir.Facts.{to_z-of_z}
 use Rattle.page_numbers.specs.Numbers.{min_z}
 use Rattle.page_walks.specs.Sizes.{filled}
 use Rattle.page_walks.proofs.Rows.{filled_more, filled_out}
-use Rattle.page_walks.proofs.Sums.{exact_two}
+use Rattle.page_walks.proofs.Sums.{exact_two, exact_wide}
 use Rattle.closure.proofs.relax_row.Goals as goal
-use Rattle.closure.proofs.relax_row.Goals.{After-round-1}
 
 -- the lesser of the old entry and the way round
 abbrev better : List ℤ → List ℤ → ℤ → ℕ → ℤ
@@ -23,23 +22,18 @@ pub loop-v-init : goal.loop-v-init
 unfolding filled
 loop-v-init c = (search rules, refl, refl)
 
--- the sum of the way round, as a number
-on_fits : (c : After-round-1) → SFits w64 (get_or c.args.on.now c.loop-v.v (pos 0))
-on_fits c = record { sfits = c.round-1.given }
-
-round_fits : (c : After-round-1) → SFits w64 (c.args.reach +ℤ get_or c.args.on.now c.loop-v.v (pos 0))
-round_fits c = exact_two c.args.reach _ c.requires.bounded (c.requires.row_within.entry c.loop-v.v c.loop-v-test.true)
-
 pub overflow_add-round : goal.overflow_add-round
-overflow_add-round c = simp (to_z-of_z, c.ranges.reach, on_fits (goal.at.overflow_add-round c).After-round-1) (round_fits (goal.at.overflow_add-round c).After-round-1)
+overflow_add-round c = let there = c.requires.row_within.entry c.loop-v.v c.loop-v-test.true in
+    simp (to_z-of_z, c.ranges.reach, exact_wide _ there) (exact_two c.args.reach _ c.requires.bounded there)
 
 pub loop-v-preserved : goal.loop-v-preserved
 loop-v-preserved c = let l = c.loop-v in
     let row = c.args.row.now in
     let on = c.args.on.now in
-    let old : SFits w64 (get_or l.row l.v (pos 0)) = record { sfits = c.lesser-arg-1.given } in
+    let old : SFits w64 (get_or l.row l.v (pos 0)) = search rules in
+    let way = c.requires.row_within.entry l.v c.loop-v-test.true in
     let there : get_or l.row l.v (pos 0) ≡ get_or row l.v (pos 0) = ap (λ h. get_or h l.v (pos 0)) l.invariant.2 ∙ filled_out _ l.v row l.v (pos 0) (omega arith) in
-    let told : c.lesser.result ≡ min_z (get_or l.row l.v (pos 0)) (c.args.reach +ℤ get_or on l.v (pos 0)) = simp (to_z-of_z, c.ranges.reach, old, on_fits (goal.at.loop-v-preserved c).After-round-1, round_fits (goal.at.loop-v-preserved c).After-round-1) at c.lesser.ensures in
+    let told : c.lesser.result ≡ min_z (get_or l.row l.v (pos 0)) (c.args.reach +ℤ get_or on l.v (pos 0)) = simp (to_z-of_z, c.ranges.reach, old, exact_wide _ way, exact_two c.args.reach _ c.requires.bounded way) at c.lesser.ensures in
     let new : c.lesser.result ≡ better row on c.args.reach l.v = told ∙ ap (λ (z : ℤ). min_z z (c.args.reach +ℤ get_or on l.v (pos 0))) there in (
       omega (arith, c.loop-v-test.true),
       length-set l.row l.v _ ∙ l.invariant.1,

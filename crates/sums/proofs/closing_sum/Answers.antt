@@ -18,13 +18,11 @@ returns-then-edges-eq0 c = let m : c.args.s < most_vertices = omega (arith, c.re
 
 pub least_sum-requires : goal.least_sum-requires
 least_sum-requires c = let a = c.args in
-    let hn : (0 < a.n) × (a.n ≤ most_vertices) = (c.requires.n_nonzero.0, c.requires.n_nonzero.1) in (
-      hn,
-      (
-        row_within far_n a.n a.g.now c.requires.sized.0 hn.1 c.requires.sized.1 (omega arith) _ (omega (arith, c.requires.n_nonzero)),
-        back_within a.g.now a.n hn c.requires.sized.1 a.s (a.edges - 1) _ c.requires.n_nonzero.2 (omega (arith, c.requires.n_nonzero)) c.sums_back.ensures,
-      ),
-    )
+    let hn : (0 < a.n) × (a.n ≤ most_vertices) = (c.requires.n_nonzero.0, c.requires.n_nonzero.1) in record {
+      n_nonzero = hn;
+      row_within = row_within far_n a.n a.g.now c.requires.sized.0 hn.1 c.requires.sized.1 (omega arith) _ (omega (arith, c.requires.n_nonzero));
+      row_within_2 = back_within a.g.now a.n hn c.requires.sized.1 a.s (a.edges - 1) _ c.requires.n_nonzero.2 (omega (arith, c.requires.n_nonzero)) c.sums_back.ensures;
+    }
 
 pub returns : goal.returns
 returns c = let a = c.args in

@@ -5,7 +5,7 @@ use Rattle.page_walks.specs.Sizes.{filled}
 use Rattle.sums.proofs.column.Given as goal
 
 abbrev pub invariant-loop-v : goal.invariant-loop-v
-invariant-loop-v l = (l.v ≤ l.s) × (l.row ≡ filled (λ l.v. weight l.g l.v l.initial.row) l.v l.n)
+invariant-loop-v l = (l.v ≤ l.n) × (l.row ≡ filled (λ v. weight l.g v l.s) l.v l.initial.row)
 
 abbrev pub decreases-loop-v : goal.decreases-loop-v
-decreases-loop-v l = l.s - l.v
+decreases-loop-v l = l.n - l.v

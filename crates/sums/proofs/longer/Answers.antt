@@ -18,7 +18,7 @@ loop-v-init c = (search rules, refl)
 
 pub least_sum-requires : goal.least_sum-requires
 least_sum-requires c = let l = c.loop-v in
-    (c.requires.n_nonzero, (row_within far_n c.args.n c.args.g.now c.requires.sized.0 c.requires.n_nonzero.1 c.requires.sized.1 (omega arith) l.v c.loop-v-test.true, c.requires.row_within))
+    record { n_nonzero = c.requires.n_nonzero; row_within = row_within far_n c.args.n c.args.g.now c.requires.sized.0 c.requires.n_nonzero.1 c.requires.sized.1 (omega arith) l.v c.loop-v-test.true; row_within_2 = c.requires.row_within }
 
 pub loop-v-preserved : goal.loop-v-preserved
 loop-v-preserved c = let l = c.loop-v in

@@ -8,7 +8,7 @@ use Rattle.page_walks.specs.Search.{least}
 use Rattle.sums.proofs.longer.Given as goal
 
 abbrev pub invariant-loop-v : goal.invariant-loop-v
-invariant-loop-v l = (l.v ≤ l.initial.row) × (l.row ≡ filled (λ l.v. least (λ u. weight l.g l.v u +ℤ get_or l.on u (pos 0)) (l.initial.row - 1)) l.v l.n)
+invariant-loop-v l = (l.v ≤ l.n) × (l.row ≡ filled (λ v. least (λ u. weight l.g v u +ℤ get_or l.on u (pos 0)) (l.n - 1)) l.v l.initial.row)
 
 abbrev pub decreases-loop-v : goal.decreases-loop-v
-decreases-loop-v l = l.initial.row - l.v
+decreases-loop-v l = l.n - l.v

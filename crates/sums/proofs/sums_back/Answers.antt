@@ -15,7 +15,7 @@ loop-j-init c = (back_first c.args.g.now c.args.n (c.requires.n_nonzero.0, c.req
 pub longer-requires : goal.longer-requires
 longer-requires c = let l = c.loop-j in
     let hn : (0 < c.args.n) × (c.args.n ≤ most_vertices) = (c.requires.n_nonzero.0, c.requires.n_nonzero.1) in
-    (hn, (c.requires.sized, back_within c.args.g.now c.args.n hn c.requires.sized.1 c.args.s l.j l.row c.requires.n_nonzero.2 (omega (arith, c.requires.n_nonzero)) l.invariant.0))
+    record { n_nonzero = hn; sized = c.requires.sized; row_within = back_within c.args.g.now c.args.n hn c.requires.sized.1 c.args.s l.j l.row c.requires.n_nonzero.2 (omega (arith, c.requires.n_nonzero)) l.invariant.0 }
 
 pub loop-j-preserved : goal.loop-j-preserved
 loop-j-preserved c = let l = c.loop-j in

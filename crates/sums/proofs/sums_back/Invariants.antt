@@ -6,7 +6,7 @@ use Rattle.sums.specs.SumsBack.{Back}
 use Rattle.sums.proofs.sums_back.Given as goal
 
 abbrev pub invariant-loop-j : goal.invariant-loop-j
-invariant-loop-j l = Back l.g l.s l.edges l.j l.row × (l.j ≤ l.initial.row) × (length l.next ≡ most_vertices)
+invariant-loop-j l = Back l.g l.n l.s l.j l.row × (l.j ≤ l.edges) × (length l.next ≡ most_vertices)
 
 abbrev pub decreases-loop-j : goal.decreases-loop-j
-decreases-loop-j l = l.initial.row - l.j
+decreases-loop-j l = l.edges - l.j
