@@ -6,7 +6,7 @@ use Rattle.formula_lines.specs.Lines.{line_for, Tabled}
 use Rattle.formula_lines.proofs.lines.by.Goals as goal
 
 pub returns-in-One : goal.returns-in-One
-returns-in-One c = subst (λ v. Tabled c.args.one (line_for (version_of v) Modify false i)) (sym c.in-One.is) a
+returns-in-One c i a b = subst (λ v. Tabled c.args.one (line_for (version_of v) Modify false i)) (sym c.in-One.is) a
 
 pub returns-in-Two : goal.returns-in-Two
-returns-in-Two c = subst (λ v. Tabled c.args.two (line_for (version_of v) Modify false i)) (sym c.in-Two.is) b
+returns-in-Two c i a b = subst (λ v. Tabled c.args.two (line_for (version_of v) Modify false i)) (sym c.in-Two.is) b

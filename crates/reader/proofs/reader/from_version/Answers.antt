@@ -33,4 +33,4 @@ returns-then-version-gt2 c = let n = version_in c.args.s.now in
 pub returns : goal.returns
 unfolding from_version
 returns c = let n = version_in c.args.s.now in
-    rw (le-leb _ _ c.if-s-lt5.false, version_known n (omega (arith, c.if-version-lt1.false)) (omega (arith, c.if-version-gt2.false))) c.from_tables_lem.ensures
+    rw (le-leb _ _ c.if-s-lt5.false, version_known n (omega (arith, c.if-version-lt1.false)) (omega (arith, c.if-version-gt2.false))) c.from_tables.ensures
