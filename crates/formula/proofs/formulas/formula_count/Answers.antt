@@ -8,13 +8,13 @@ pub insert_count-requires : goal.insert_count-requires
 insert_count-requires c = let q = c.args.q in
     let g = c.well_formed.0.1.1 in (
       able q c.requires.0
-          (sym (length-map q.columns _) ∙ g.1.0.1.0.1)
-          (sym (length-map q.condition.tokens _) ∙ g.1.1.0.1.1.0.1.0.1)
-          (sym (length-map q.change.rows _) ∙ g.1.1.1.0.1.1.1.0.1.0.1)
-          (sym (length-map q.change.condition.tokens _) ∙ g.1.1.1.0.1.1.1.1.1.0.1.1.0.1.0.1)
-          (sym (length-map q.change.settings _) ∙ g.1.1.1.0.1.1.1.1.1.1.0.1.0.1)
+          (g.1.0.1.0.1)
+          (g.1.1.0.1.1.0.1.0.1)
+          (g.1.1.1.0.1.1.1.0.1.0.1)
+          (g.1.1.1.0.1.1.1.1.1.0.1.1.0.1.0.1)
+          (g.1.1.1.0.1.1.1.1.1.1.0.1.0.1)
           c.requires.1,
-      sym (length-map q.shape.widths _) ∙ g.0.1.1.1.1.0.1.0.1,
+      g.0.1.1.1.1.0.1.0.1,
       c.in-Insert.is,
     )
 

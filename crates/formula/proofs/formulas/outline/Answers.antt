@@ -15,7 +15,7 @@ use Rattle.formula.proofs.formulas.outline.Goals.{Start}
 
 -- what is known of the question at the start
 whole : (c : Start) → Whole c.args.q
-whole c = record { held = c.requires.1; long = sym (length-map c.args.q.columns _) ∙ c.well_formed.1.1.1.1.0.1.1.1.0.1.0.1 }
+whole c = record { held = c.requires.1; long = c.well_formed.1.1.1.1.0.1.1.1.0.1.0.1 }
 
 built : (c : Start) → Buildable c.args.q.change.verb c.args.q
 built c =
@@ -23,10 +23,10 @@ built c =
     let g = c.well_formed.1.1.1.1.0.1.1 in
     buildable q c.requires.1
     (whole c).long
-    (sym (length-map q.condition.tokens _) ∙ g.1.1.0.1.1.0.1.0.1)
-    (sym (length-map q.change.rows _) ∙ g.1.1.1.0.1.1.1.0.1.0.1)
-    (sym (length-map q.change.condition.tokens _) ∙ g.1.1.1.0.1.1.1.1.1.0.1.1.0.1.0.1)
-    (sym (length-map q.change.settings _) ∙ g.1.1.1.0.1.1.1.1.1.1.0.1.0.1)
+    (g.1.1.0.1.1.0.1.0.1)
+    (g.1.1.1.0.1.1.1.0.1.0.1)
+    (g.1.1.1.0.1.1.1.1.1.0.1.1.0.1.0.1)
+    (g.1.1.1.0.1.1.1.1.1.1.0.1.0.1)
     c.requires.2
 
 which : (c : Start) → let a = c.args in Found a.q a.q.change.verb (eqb a.asked 1) a.i (F.formulas (question_of a.q) a.asked)
@@ -40,7 +40,7 @@ context_of-context-requires c = (built (goal.at.context_of-context-requires c).S
 
 pub line_of-end-requires : goal.line_of-end-requires
 line_of-end-requires c = let a = c.args in
-    let l = c.line_at_lem in (
+    let l = c.line_at-line in (
       c.requires.0,
       c.context_of-context.ensures.legible,
       record { is = refl; some = l.ensures.some; few = l.ensures.few; long = l.ensures.long },
@@ -53,9 +53,9 @@ vertices-requires c = ((whole (goal.at.vertices-requires c).Start).held.shape.fe
 pub returns : goal.returns
 returns c = let a = c.args in
     let Q = question_of a.q in
-    let l = c.line_at_lem in
+    let l = c.line_at-line in
     let d = c.context_of-context in
-    let e = c.Line-of in (
+    let e = c.line_of-end in (
       written a.q _ l.result d.result a.q.change.verb (eqb a.asked 1) a.i (F.formulas Q a.asked) (which (goal.at.returns c).Start) l.ensures d.ensures refl (e.ensures.0 Q d.ensures.under)
           (subst (Spans c.vertices.result) (ranges_same a.q (whole (goal.at.returns c).Start) l.result.pairs) c.vertices.ensures),
       e.ensures.1,

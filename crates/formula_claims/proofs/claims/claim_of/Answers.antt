@@ -46,34 +46,33 @@ differs-requires c = let d = c.args.d in
     (rw (ap claim_of c.in-Differing.is) at c.requires.0, subst Usable (sym a) (view_usable d c.requires.1 (d.pairs && c.args.second) true), subst Usable (sym b) (view_usable d c.requires.1 _ _), ap (λ v. v.total) b ∙ sym (ap (λ v. v.total) a))
 
 pub returns-in-Listed : goal.returns-in-Listed
-returns-in-Listed c = let d = c.args.d in
+returns-in-Listed c Q u = let d = c.args.d in
     rw (ap claim_of c.in-Listed.is)
     (said (ap (λ v. condition_program (sight_of v) (condition_of d.listed)) c.view-old.ensures ∙ listed_is Q d u c.args.second) c.condition.ensures)
 
 pub returns-in-Relisted : goal.returns-in-Relisted
-returns-in-Relisted c = let d = c.args.d in
+returns-in-Relisted c Q u = let d = c.args.d in
     rw (ap claim_of c.in-Relisted.is)
     (said (ap (λ v. condition_program (sight_of v) (condition_of d.listed)) c.view-new.ensures ∙ relisted_is Q d u c.args.second) c.condition-in-Relisted.ensures)
 
 pub returns-in-Chosen : goal.returns-in-Chosen
-returns-in-Chosen c = let d = c.args.d in
+returns-in-Chosen c Q u = let d = c.args.d in
     rw (ap claim_of c.in-Chosen.is)
     (said (ap (λ v. condition_program (sight_of v) (condition_of d.chosen)) c.view-old-in-Chosen.ensures ∙ chosen_is Q d u c.args.second) c.condition-in-Chosen.ensures)
 
 pub returns-in-Fitting : goal.returns-in-Fitting
-returns-in-Fitting c = rw (ap claim_of c.in-Fitting.is) (c.in_range.ensures Q u)
+returns-in-Fitting c Q u = rw (ap claim_of c.in-Fitting.is) (c.in_range.ensures Q u)
 
 pub returns-in-Moving : goal.returns-in-Moving
-returns-in-Moving c = rw (ap claim_of c.in-Moving.is) (c.moves.ensures Q u)
+returns-in-Moving c Q u = rw (ap claim_of c.in-Moving.is) (c.moves.ensures Q u)
 
 pub returns-in-Staying : goal.returns-in-Staying
-returns-in-Staying c = rw (ap claim_of c.in-Staying.is) (c.stays.ensures Q u)
+returns-in-Staying c Q u = rw (ap claim_of c.in-Staying.is) (c.stays.ensures Q u)
 
 pub returns-in-Lasting : goal.returns-in-Lasting
-returns-in-Lasting c = rw (ap claim_of c.in-Lasting.is) (c.lasts.ensures Q u)
+returns-in-Lasting c Q u = rw (ap claim_of c.in-Lasting.is) (c.lasts.ensures Q u)
 
 pub returns-in-Differing : goal.returns-in-Differing
-returns-in-Differing c = let d = c.args.d in
-    let k = c.c-1.given in
-    rw (ap claim_of k.1)
-    (said (ap₂ (λ a b. false_i ∷ differs_over (mode_in a) (sight_of a) (sight_of b) (visible_of a)) c.view-new-in-Differing.ensures c.view-than.ensures ∙ differs_is Q d u c.args.second k.0.0 k.0.1.0) c.differs.ensures)
+returns-in-Differing c Q u = let d = c.args.d in
+    rw (ap claim_of c.in-Differing.is)
+    (said (ap₂ (λ a b. false_i ∷ differs_over (mode_in a) (sight_of a) (sight_of b) (visible_of a)) c.view-new-in-Differing.ensures c.view-than.ensures ∙ differs_is Q d u c.args.second c.in-Differing.other c.in-Differing.after) c.differs.ensures)

@@ -14,7 +14,7 @@ bounded_all-requires c = let d = c.args.d in
     (room_left _ _ (room_less c.requires.0 (omega arith) (omega arith)) c.emit-one.ensures, subst Usable (sym e) (view_usable d c.requires.1 (d.pairs && c.args.second) true), ap (λ v. v.moved) e, c.requires.1.long)
 
 pub returns : goal.returns
-returns c = let a = c.args in
+returns c Q u = let a = c.args in
     within (omega arith) (omega arith)
     (more c.emit-one.ensures
     (said (ap (λ v. bounded_all (row_of v) (table_from v.first a.d.columns) (modes_of v)) c.view-new.ensures ∙ tests_are Q a.d u a.second) c.bounded_all.ensures))

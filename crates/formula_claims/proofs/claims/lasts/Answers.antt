@@ -35,7 +35,7 @@ emit-requires c = let l = c.requires.1 in
     room_left _ _ (room_less c.requires.0 (omega arith) (omega arith)) (more (more (more (more c.condition-one.ensures c.emit-two.ensures) (c.in_range-three.ensures l.question l.under)) c.condition-four.ensures) c.emit-five.ensures)
 
 pub returns : goal.returns
-returns c = let a = c.args in
+returns c Q u = let a = c.args in
     let d = a.d in
     within (omega arith) (omega arith)
     (more

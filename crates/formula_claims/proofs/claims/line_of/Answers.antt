@@ -10,7 +10,7 @@ bounds-l-0 c = omega (arith, c.requires.2.long)
 
 pub part_of-next-requires : goal.part_of-next-requires
 part_of-next-requires c = let a = c.args in
-    (begin_room a.t6 c.requires.2 c.requires.3 (program_of a.kinds.now a.left.now a.right.now a.most.now begun) c.requires.0 refl refl, c.requires.1)
+    (begin_room a.l c.requires.2 c.requires.3 (program_of a.kinds.now a.left.now a.right.now a.most.now begun) c.requires.0 refl refl, c.requires.1)
 
 pub loop-i-init : goal.loop-i-init
 loop-i-init c = let a = c.args in (
@@ -21,7 +21,7 @@ loop-i-init c = let a = c.args in (
         long = c.requires.0;
         count = refl;
         places = refl;
-        wrote = λ Q u. part_first a.t6 c.requires.2 c.requires.3 (program_of a.kinds.now a.left.now a.right.now a.most.now begun) c.requires.0 refl refl Q a.d _ (c.part_of-next.ensures Q u);
+        wrote = λ Q u. part_first a.l c.requires.2 c.requires.3 (program_of a.kinds.now a.left.now a.right.now a.most.now begun) c.requires.0 refl refl Q a.d _ (c.part_of-next.ensures Q u);
       },
     )
 
@@ -33,14 +33,14 @@ part_of-one-requires c = let a = c.args in
     let l = c.loop-i in
     let s = l.invariant.2 in
     let g = c.requires.1 in
-    (part_room a.t6 c.requires.2 c.requires.3 s.begin s.long s.count s.places l.i l.invariant.0 c.loop-i-test.true g.question a.d _ (s.wrote g.question g.under), g)
+    (part_room a.l c.requires.2 c.requires.3 s.begin s.long s.count s.places l.i l.invariant.0 c.loop-i-test.true g.question a.d _ (s.wrote g.question g.under), g)
 
 pub emit-next-requires : goal.emit-next-requires
 emit-next-requires c = let a = c.args in
     let l = c.loop-i in
     let s = l.invariant.2 in
     let g = c.requires.1 in
-    and_room a.t6 c.requires.2 c.requires.3 s.begin s.long s.count s.places l.i l.invariant.0 c.loop-i-test.true g.question a.d _ (s.wrote g.question g.under) _ _ (c.part_of-one.ensures g.question g.under)
+    and_room a.l c.requires.2 c.requires.3 s.begin s.long s.count s.places l.i l.invariant.0 c.loop-i-test.true g.question a.d _ (s.wrote g.question g.under) _ _ (c.part_of-one.ensures g.question g.under)
 
 pub overflow_add-i : goal.overflow_add-i
 overflow_add-i c = omega (arith, c.requires.2.few, c.loop-i-test.true)
@@ -56,7 +56,7 @@ loop-i-preserved c = let a = c.args in
         long = s.long;
         count = s.count;
         places = s.places;
-        wrote = λ Q u. part_more a.t6 c.requires.2 l.i l.invariant.0 c.loop-i-test.true Q a.d s.begin _ _ _ (s.wrote Q u) (c.part_of-one.ensures Q u) c.emit-next.ensures;
+        wrote = λ Q u. part_more a.l c.requires.2 l.i l.invariant.0 c.loop-i-test.true Q a.d s.begin _ _ _ (s.wrote Q u) (c.part_of-one.ensures Q u) c.emit-next.ensures;
       },
     )
 
@@ -65,4 +65,4 @@ returns c = let a = c.args in
     let l = c.loop-i in
     let s = l.invariant.2 in
     let g = c.requires.1 in
-    (λ Q u. parts_all a.t6 c.requires.2 c.requires.3 s.begin s.long s.count s.places Q a.d _ l.i c.loop-i-test.false (s.wrote Q u), (s.wrote g.question g.under).long)
+    (λ Q u. parts_all a.l c.requires.2 c.requires.3 s.begin s.long s.count s.places Q a.d _ l.i c.loop-i-test.false (s.wrote Q u), (s.wrote g.question g.under).long)

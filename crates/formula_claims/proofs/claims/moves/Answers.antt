@@ -21,7 +21,7 @@ bounded_all-requires c = let d = c.args.d in
     (room_left _ _ c.requires.0 c.condition-one.ensures, subst Usable e (view_usable d c.requires.1 (d.pairs && c.args.second) true), ap (λ v. v.moved) c.view-new.ensures, c.requires.1.long)
 
 pub returns : goal.returns
-returns c = let d = c.args.d in
+returns c Q u = let d = c.args.d in
     let second = c.args.second in
     more
     (said (ap (λ v. condition_program (sight_of v) (condition_of d.chosen)) c.view-old.ensures ∙ chosen_is Q d u second) c.condition-one.ensures)

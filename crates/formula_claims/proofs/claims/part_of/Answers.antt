@@ -9,7 +9,7 @@ emit-requires c = let l = c.requires.1 in
     denied_room c.args.p c.requires.0 c.if-p.true (c.claim_of-one.ensures l.question l.under)
 
 pub returns-then-p : goal.returns-then-p
-returns-then-p c = let a = c.args in part_denied Q a.d a.p (c.claim_of-one.ensures Q u) c.emit.ensures c.if-p.true
+returns-then-p c Q u = let a = c.args in part_denied Q a.d a.p (c.claim_of-one.ensures Q u) c.emit.ensures c.if-p.true
 
 pub returns : goal.returns
-returns c = let a = c.args in part_said Q a.d a.p (c.claim_of-one.ensures Q u) c.if-p.false
+returns c Q u = let a = c.args in part_said Q a.d a.p (c.claim_of-one.ensures Q u) c.if-p.false

@@ -24,7 +24,7 @@ emit-requires c = let l = c.requires.1 in
     room_left _ _ (room_less c.requires.0 (omega arith) (omega arith)) (more (more (c.moves-one.ensures l.question l.under) c.emit-two.ensures) c.condition-three.ensures)
 
 pub returns : goal.returns
-returns c = let d = c.args.d in
+returns c Q u = let d = c.args.d in
     within (omega arith) (omega arith)
     (more
     (more (c.moves-one.ensures Q u) c.emit-two.ensures)

@@ -1,4 +1,5 @@
 use mathlib.Core.Path.{sym, subst}
+use mathlib.Core.List.{[]}
 use native.Mathlib.Omega.{arith}
 use lib.ListN.{get_or, take}
 use Rattle.page_meaning.specs.WellFormed.{Reads}

@@ -13,8 +13,8 @@ loop-i-init c = (omega arith, record { long = refl; same = refl })
 
 pub loop-i-preserved : goal.loop-i-preserved
 loop-i-preserved c = let l = c.loop-i in
-    (search rules, fill_more (λ (x : Column). x.visible) (λ (b : Bool). b) most_columns c.args.t1 l.visible l.i c.requires l.invariant.1 _ no_column refl c.loop-i-test.true)
+    (search rules, fill_more (λ (x : Column). x.visible) (λ (b : Bool). b) most_columns c.args.columns l.visible l.i c.requires l.invariant.1 _ no_column refl c.loop-i-test.true)
 
 pub returns : goal.returns
 returns c = let l = c.loop-i in
-    sym (map_same l.visible) ∙ fill_all (λ (x : Column). x.visible) (λ (b : Bool). b) most_columns c.args.t1 l.visible l.i c.requires l.invariant.1 c.loop-i-test.false
+    sym (map_same l.visible) ∙ fill_all (λ (x : Column). x.visible) (λ (b : Bool). b) most_columns c.args.columns l.visible l.i c.requires l.invariant.1 c.loop-i-test.false
