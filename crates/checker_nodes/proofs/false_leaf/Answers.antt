@@ -10,7 +10,7 @@ use Rattle.page_sheets.specs.Tree.{false_node}
 use Rattle.checker_nodes.proofs.false_leaf.Goals as goal
 
 pub slice_bounds-known-end : goal.slice_bounds-known-end
-slice_bounds-known-end c = let a = c.args in sym (length-take-le a.decided a.t2 (search rules))
+slice_bounds-known-end c = let a = c.args in sym (length-take-le a.decided a.truths (search rules))
 
 pub returns-in-Fails : goal.returns-in-Fails
 returns-in-Fails c = λ base.
