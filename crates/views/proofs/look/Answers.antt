@@ -12,7 +12,7 @@ loop-i-init c = let a = c.args in
 
 pub view-requires : goal.view-requires
 view-requires c = let l = c.loop-i in
-    ((c.requires.0, c.requires.1, c.requires.2), (omega (arith, c.loop-i-test.true, l.invariant.1), l.invariant.3))
+    record { laid_rows = (c.requires.0, c.requires.1, c.requires.2); i_lt_count = (omega (arith, c.loop-i-test.true, l.invariant.1), l.invariant.3) }
 
 pub bounds-seen-i : goal.bounds-seen-i
 bounds-seen-i c = omega (arith, c.requires.0.short, c.loop-i-test.true, c.loop-i.invariant.1)

@@ -7,7 +7,7 @@ use Rattle.views.specs.Views.{Sees}
 use Rattle.views.proofs.look.Given as goal
 
 abbrev pub invariant-loop-i : goal.invariant-loop-i
-invariant-loop-i l = (l.i ≤ l.initial.seen) × (l.initial.seen ≡ l.ext.count) × (length l.seen ≡ most_instructions) × Sees (tree_of l.nodes l.most l.ext) l.near l.i l.seen
+invariant-loop-i l = (l.i ≤ l.n) × (l.n ≡ l.ext.count) × (length l.seen ≡ most_instructions) × Sees (tree_of l.nodes l.most l.ext) l.near l.i l.seen
 
 abbrev pub decreases-loop-i : goal.decreases-loop-i
-decreases-loop-i l = l.initial.seen - l.i
+decreases-loop-i l = l.n - l.i

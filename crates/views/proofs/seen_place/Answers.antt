@@ -54,14 +54,17 @@ bounds-near-left-else-there-most c = omega (arith, c.requires.0.few, (c.requires
 pub bounds-near-right-else-there-most : goal.bounds-near-right-else-there-most
 bounds-near-right-else-there-most c = omega (arith, c.requires.0.few, (c.requires.0.facts true).from_is)
 
+back_fits : (c : After-back-1) → SFits w64 (to_z w64 (of_z w64 (get_or (row c.args.near.now c.args.left) c.args.right (pos 0))) +ℤ to_z w64 (of_z w64 c.args.most))
+back_fits c = let a = c.args in
+    subst (SFits w64) (sym (back_is c)) (sum_fits a.last a.near.now c.requires.2 a.right a.left a.most (c.requires.0.facts true) a.left (c.requires.0.facts true).to_is)
+
 pub overflow_add-back : goal.overflow_add-back
-overflow_add-back c = let a = c.args in
-    subst (SFits w64) (sym (back_is (goal.at.overflow_add-back c).After-back-1)) (sum_fits a.last a.near.now c.requires.2 a.right a.left a.most (c.requires.0.facts true) a.left (c.requires.0.facts true).to_is)
+overflow_add-back c = back_fits (goal.at.overflow_add-back c).After-back-1
 
 pub returns-then-back-most-lt0 : goal.returns-then-back-most-lt0
 returns-then-back-most-lt0 c = let a = c.args in
-    seen_fails a.near.now (place_of a.left a.right a.most) _ _ (there_is (goal.at.returns-then-back-most-lt0 c).After-there-1) (to_z-of_z {w = w64} c.ranges.most) c.if-there-most.false _ (to_z-of_z {w = w64} (add-if2 c) ∙ back_is (goal.at.returns-then-back-most-lt0 c).After-back-1) c.if-back-most-lt0.true
+    seen_fails a.near.now (place_of a.left a.right a.most) _ _ (there_is (goal.at.returns-then-back-most-lt0 c).After-there-1) (to_z-of_z {w = w64} c.ranges.most) c.if-there-most.false _ (to_z-of_z {w = w64} (back_fits (goal.at.returns-then-back-most-lt0 c).After-back-1) ∙ back_is (goal.at.returns-then-back-most-lt0 c).After-back-1) c.if-back-most-lt0.true
 
 pub returns : goal.returns
 returns c = let a = c.args in
-    seen_open a.near.now (place_of a.left a.right a.most) _ _ (there_is (goal.at.returns c).After-there-1) (to_z-of_z {w = w64} c.ranges.most) c.if-there-most.false _ (to_z-of_z {w = w64} (add-if2 c) ∙ back_is (goal.at.returns c).After-back-1) c.if-back-most-lt0.false
+    seen_open a.near.now (place_of a.left a.right a.most) _ _ (there_is (goal.at.returns c).After-there-1) (to_z-of_z {w = w64} c.ranges.most) c.if-there-most.false _ (to_z-of_z {w = w64} (back_fits (goal.at.returns c).After-back-1) ∙ back_is (goal.at.returns c).After-back-1) c.if-back-most-lt0.false

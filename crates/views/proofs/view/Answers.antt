@@ -17,11 +17,11 @@ edge_of-q-requires c = omega (arith, c.requires.laid_rows.0.short, c.requires.i_
 
 pub seen_place-requires : goal.seen_place-requires
 seen_place-requires c = let a = c.args in let t = tree_of a.nodes.now a.most.now a.ext in let laid = c.requires.laid_rows.0 in let q = (laid.made a.i c.requires.i_lt_count.0).place (sym c.kind_of-kind.ensures ∙ c.if-kind-eq0.true) in
-    (subst (Placed a.ext.last) (sym (held_most a.ext.last _ q _ _ _ c.Edge-of.ensures)) q, c.requires.laid_rows.1, c.requires.laid_rows.2)
+    (subst (Placed a.ext.last) (sym (held_most a.ext.last _ q _ _ _ c.edge_of-q.ensures)) q, c.requires.laid_rows.1, c.requires.laid_rows.2)
 
 pub returns-then-kind-eq0 : goal.returns-then-kind-eq0
 returns-then-kind-eq0 c = let a = c.args in let t = tree_of a.nodes.now a.most.now a.ext in let laid = c.requires.laid_rows.0 in let k = sym c.kind_of-kind.ensures ∙ c.if-kind-eq0.true in
-    shows_place t laid a.near.now a.i a.seen.now c.requires.i_lt_count.1 c.requires.i_lt_count.0 c.seen_place.result k (c.seen_place.ensures ∙ ap (seen_place a.near.now) (held_most a.ext.last _ ((laid.made a.i c.requires.i_lt_count.0).place k) _ _ _ c.Edge-of.ensures))
+    shows_place t laid a.near.now a.i a.seen.now c.requires.i_lt_count.1 c.requires.i_lt_count.0 c.seen_place.result k (c.seen_place.ensures ∙ ap (seen_place a.near.now) (held_most a.ext.last _ ((laid.made a.i c.requires.i_lt_count.0).place k) _ _ _ c.edge_of-q.ensures))
 
 pub returns-then-kind-ge4 : goal.returns-then-kind-ge4
 returns-then-kind-ge4 c = let a = c.args in let t = tree_of a.nodes.now a.most.now a.ext in let laid = c.requires.laid_rows.0 in

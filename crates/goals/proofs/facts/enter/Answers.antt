@@ -34,11 +34,14 @@ round_is c =
     let a = c.args in
     ap₂ ◌+ℤ◌ (to_z-of_z {w = w64} (record { sfits = c.round-1.given }) ∙ read most_vertices a.near.now a.to a.from c.requires.2 (omega (arith, c.requires.0, c.requires.1.to_is)) (omega (arith, c.requires.0, c.requires.1.from_is))) (to_z-of_z {w = w64} c.ranges.k)
 
+round_fits : (c : After-round-1) → SFits w64 (to_z w64 (of_z w64 (get_or (row c.args.near.now c.args.to) c.args.from (pos 0))) +ℤ to_z w64 (of_z w64 c.args.k))
+round_fits c = subst (SFits w64) (sym (round_is c)) (sum_fits c.args.last c.args.near.now c.requires.3 c.args.from c.args.to c.args.k c.requires.1 c.args.to c.requires.1.to_is)
+
 pub overflow_add-round : goal.overflow_add-round
-overflow_add-round c = subst (SFits w64) (sym (round_is (goal.at.overflow_add-round c).After-round-1)) (sum_fits c.args.last c.args.near.now c.requires.3 c.args.from c.args.to c.args.k c.requires.1 c.args.to c.requires.1.to_is)
+overflow_add-round c = round_fits (goal.at.overflow_add-round c).After-round-1
 
 pub returns-then-round-k-lt0 : goal.returns-then-round-k-lt0
-returns-then-round-k-lt0 c = below_zero _ _ (to_z-of_z {w = w64} (add-if1 c) ∙ round_is (goal.at.returns-then-round-k-lt0 c).After-round-1) c.if-round-k-lt0.true
+returns-then-round-k-lt0 c = below_zero _ _ (to_z-of_z {w = w64} (round_fits (goal.at.returns-then-round-k-lt0 c).After-round-1) ∙ round_is (goal.at.returns-then-round-k-lt0 c).After-round-1) c.if-round-k-lt0.true
 
 pub overflow_add-last : goal.overflow_add-last
 overflow_add-last c = omega (arith, c.requires.0)
@@ -46,19 +49,15 @@ overflow_add-last c = omega (arith, c.requires.0)
 pub relax_in-requires : goal.relax_in-requires
 relax_in-requires c = let f = c.requires.1 in
     let near = c.args.near.now in
-    let k : Bounded far_n c.args.k = record { high = omega (arith, f.high); low = omega (arith, f.low) } in (
-      (omega (arith, c.requires.0), omega (arith, f.from_is), omega (arith, f.to_is), c.requires.2),
-      (
-        subst (Bounded far_n) (sym (to_z-of_z {w = w64} c.ranges.k)) k,
-        (
-          subst (λ n. AllWithin far_n n near) (sym (add-one c.args.last)) (tight_within (suc c.args.last) near c.requires.3),
-          subst (λ n. Triangle n (weight near)) (sym (add-one c.args.last)) c.requires.3.triangle,
-        ),
-      ),
-    )
+    let k : Bounded far_n c.args.k = record { high = omega (arith, f.high); low = omega (arith, f.low) } in record {
+      n_le_most_vertices = (omega (arith, c.requires.0), omega (arith, f.from_is), omega (arith, f.to_is), c.requires.2);
+      bounded = subst (Bounded far_n) (sym (to_z-of_z {w = w64} c.ranges.k)) k;
+      all_within = subst (λ n. AllWithin far_n n near) (sym (add-one c.args.last)) (tight_within (suc c.args.last) near c.requires.3);
+      triangle = subst (λ n. Triangle n (weight near)) (sym (add-one c.args.last)) c.requires.3.triangle;
+    }
 
 pub returns : goal.returns
 returns c = let f = c.requires.1 in
     let near = c.args.near.now in
-    let done : c.relax_in.new.0 ≡ tabled (relax (weight near) c.args.from c.args.to c.args.k) (suc c.args.last) near = rw (add-one, to_z-of_z {w = w64} c.ranges.k) at c.relax_in.ensures in
-    closer_tabled (suc c.args.last) near c.requires.3 (omega (arith, c.requires.0)) c.requires.2 c.args.from c.args.to c.args.k f.from_is f.to_is _ done (from_zero _ _ (to_z-of_z {w = w64} (add-if1 c) ∙ round_is (goal.at.returns c).After-round-1) c.if-round-k-lt0.false)
+    let done : c.relax_in.new.near ≡ tabled (relax (weight near) c.args.from c.args.to c.args.k) (suc c.args.last) near = rw (add-one, to_z-of_z {w = w64} c.ranges.k) at c.relax_in.ensures in
+    closer_tabled (suc c.args.last) near c.requires.3 (omega (arith, c.requires.0)) c.requires.2 c.args.from c.args.to c.args.k f.from_is f.to_is _ done (from_zero _ _ (to_z-of_z {w = w64} (round_fits (goal.at.returns c).After-round-1) ∙ round_is (goal.at.returns c).After-round-1) c.if-round-k-lt0.false)

@@ -20,7 +20,7 @@ sift-r-requires c = let l = c.loop-moved in
 
 pub returns-then-r : goal.returns-then-r
 returns-then-r c = let a = c.args in let t = tree_of a.nodes.now a.most.now a.ext in let l = c.loop-moved in let r = c.sift-r in
-    (takes_then t a.near.now (stack_of a.waiting.now a.n) l.near (stack_of l.waiting l.count) l.invariant.2 true r.new.1.1.1.1.0 (stack_of r.new.1.1.1.1.1.1.1.0 r.result.count) (subst (λ b. Takes t l.near (stack_of l.waiting l.count) b r.new.1.1.1.1.0 (stack_of r.new.1.1.1.1.1.1.1.0 r.result.count)) c.if-r.true r.ensures.0.takes), r.ensures.1)
+    (takes_then t a.near.now (stack_of a.waiting.now a.n) l.near (stack_of l.waiting l.count) l.invariant.2 true r.new.near (stack_of r.new.kept r.result.count) (subst (λ b. Takes t l.near (stack_of l.waiting l.count) b r.new.near (stack_of r.new.kept r.result.count)) c.if-r.true r.ensures.0.takes), r.ensures.1)
 
 pub loop-moved-smaller : goal.loop-moved-smaller
 loop-moved-smaller c = let l = c.loop-moved in let r = c.sift-r in
@@ -28,7 +28,7 @@ loop-moved-smaller c = let l = c.loop-moved in let r = c.sift-r in
 
 pub loop-moved-preserved : goal.loop-moved-preserved
 loop-moved-preserved c = let a = c.args in let t = tree_of a.nodes.now a.most.now a.ext in let l = c.loop-moved in let r = c.sift-r in
-    (c.look.ensures.1, r.ensures.1, takes_then t a.near.now (stack_of a.waiting.now a.n) l.near (stack_of l.waiting l.count) l.invariant.2 false r.new.1.1.1.1.0 (stack_of r.new.1.1.1.1.1.1.1.0 r.result.count) (subst (λ b. Takes t l.near (stack_of l.waiting l.count) b r.new.1.1.1.1.0 (stack_of r.new.1.1.1.1.1.1.1.0 r.result.count)) c.if-r.false r.ensures.0.takes))
+    (c.look.ensures.1, r.ensures.1, takes_then t a.near.now (stack_of a.waiting.now a.n) l.near (stack_of l.waiting l.count) l.invariant.2 false r.new.near (stack_of r.new.kept r.result.count) (subst (λ b. Takes t l.near (stack_of l.waiting l.count) b r.new.near (stack_of r.new.kept r.result.count)) c.if-r.false r.ensures.0.takes))
 
 pub returns : goal.returns
 returns c = (c.loop-moved.invariant.2, c.loop-moved.invariant.1)

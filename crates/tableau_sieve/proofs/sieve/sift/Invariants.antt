@@ -8,7 +8,7 @@ use Rattle.tableau_sieve.proofs.SiftedGoals.{Sifting}
 use Rattle.tableau_sieve.proofs.sieve.sift.Given as goal
 
 abbrev pub invariant-loop-left : goal.invariant-loop-left
-invariant-loop-left l = (l.left ≤ l.initial.near) × (length l.kept ≡ most_instructions) × Sifting (tree_of l.nodes l.most l.ext) l.old (stack_of l.n l.initial.near) l.near (stack_of l.n l.left) (stack_of l.kept l.count) l.moved
+invariant-loop-left l = (l.left ≤ l.n) × (length l.kept ≡ most_instructions) × Sifting (tree_of l.nodes l.most l.ext) l.initial.near (stack_of l.old l.n) l.near (stack_of l.old l.left) (stack_of l.kept l.count) l.moved
 
 abbrev pub decreases-loop-left : goal.decreases-loop-left
 decreases-loop-left l = l.left

@@ -67,12 +67,12 @@ returns-in-Dead c = let a = c.args in let t = tree_of a.nodes.now a.most.now a.e
 
 pub returns-in-First : goal.returns-in-First
 returns-in-First c = let a = c.args in let t = tree_of a.nodes.now a.most.now a.ext in let r = c.demand-r in
-    (subst (λ (z : Sifted). Sifts t a.near.now (goal_of a.g ∷ stack_of a.kept.now a.n) z.closed z.moved r.new.1.1.1.0 (stack_of r.new.1.1.1.1.0 z.count)) (sym c.settled-in-First.ensures) (sift_first t a.near.now (goal_of a.g) (stack_of a.kept.now a.n) c.requires.0 a.seen.now c.requires.1 (sym (stands (goal.at.returns-in-First c).After-stand-s) ∙ c.in-First.is) r.result.closed r.new.1.1.1.0 (stack_of r.new.1.1.1.1.0 r.result.count) (takes_as t a.near.now (stack_of a.kept.now a.n) _ _ _ _ (c.first_of-first.ensures ∙ ap (first_at t) c.goal_at-i.ensures) c.goal_want-want.ensures r.result.closed r.new.1.1.1.0 (stack_of r.new.1.1.1.1.0 r.result.count) r.ensures.0)), r.ensures.1)
+    (subst (λ (z : Sifted). Sifts t a.near.now (goal_of a.g ∷ stack_of a.kept.now a.n) z.closed z.moved r.new.near (stack_of r.new.waiting z.count)) (sym c.settled-in-First.ensures) (sift_first t a.near.now (goal_of a.g) (stack_of a.kept.now a.n) c.requires.0 a.seen.now c.requires.1 (sym (stands (goal.at.returns-in-First c).After-stand-s) ∙ c.in-First.is) r.result.closed r.new.near (stack_of r.new.waiting r.result.count) (takes_as t a.near.now (stack_of a.kept.now a.n) _ _ _ _ (c.first_of-first.ensures ∙ ap (first_at t) c.goal_at-i.ensures) c.goal_want-want.ensures r.result.closed r.new.near (stack_of r.new.waiting r.result.count) r.ensures.0)), r.ensures.1)
 
 pub returns-in-Second : goal.returns-in-Second
 returns-in-Second c = let a = c.args in let t = tree_of a.nodes.now a.most.now a.ext in let r = c.demand-r-in-Second in
-    (subst (λ (z : Sifted). Sifts t a.near.now (goal_of a.g ∷ stack_of a.kept.now a.n) z.closed z.moved r.new.1.1.1.0 (stack_of r.new.1.1.1.1.0 z.count)) (sym c.settled-in-Second.ensures) (sift_second t a.near.now (goal_of a.g) (stack_of a.kept.now a.n) c.requires.0 a.seen.now c.requires.1 (sym (stands (goal.at.returns-in-Second c).After-stand-s) ∙ c.in-Second.is) r.result.closed r.new.1.1.1.0 (stack_of r.new.1.1.1.1.0 r.result.count) (takes_as t a.near.now (stack_of a.kept.now a.n) _ _ _ _ (ap (λ m. m - 1) c.goal_at-i.ensures) c.goal_want-want.ensures r.result.closed r.new.1.1.1.0 (stack_of r.new.1.1.1.1.0 r.result.count) r.ensures.0)), r.ensures.1)
+    (subst (λ (z : Sifted). Sifts t a.near.now (goal_of a.g ∷ stack_of a.kept.now a.n) z.closed z.moved r.new.near (stack_of r.new.waiting z.count)) (sym c.settled-in-Second.ensures) (sift_second t a.near.now (goal_of a.g) (stack_of a.kept.now a.n) c.requires.0 a.seen.now c.requires.1 (sym (stands (goal.at.returns-in-Second c).After-stand-s) ∙ c.in-Second.is) r.result.closed r.new.near (stack_of r.new.waiting r.result.count) (takes_as t a.near.now (stack_of a.kept.now a.n) _ _ _ _ (ap (λ m. m - 1) c.goal_at-i.ensures) c.goal_want-want.ensures r.result.closed r.new.near (stack_of r.new.waiting r.result.count) r.ensures.0)), r.ensures.1)
 
 pub returns-in-Open : goal.returns-in-Open
 returns-in-Open c = let a = c.args in let t = tree_of a.nodes.now a.most.now a.ext in
-    (subst (λ (z : Sifted). Sifts t a.near.now (goal_of a.g ∷ stack_of a.kept.now a.n) z.closed z.moved a.near.now (stack_of (set a.kept.now a.n a.g) z.count)) (sym c.settled-in-Open.ensures) (subst (λ gs. Sifts t a.near.now (goal_of a.g ∷ stack_of a.kept.now a.n) false false a.near.now gs) (sym (put a.kept.now a.g a.n (omega (arith, c.requires.2, element-write-kept c)))) (sift_open t a.near.now (goal_of a.g) (stack_of a.kept.now a.n) c.requires.0 a.seen.now c.requires.1)), length-set a.kept.now a.n a.g ∙ c.requires.2)
+    (subst (λ (z : Sifted). Sifts t a.near.now (goal_of a.g ∷ stack_of a.kept.now a.n) z.closed z.moved a.near.now (stack_of (set a.kept.now a.n a.g) z.count)) (sym c.settled-in-Open.ensures) (subst (λ gs. Sifts t a.near.now (goal_of a.g ∷ stack_of a.kept.now a.n) false false a.near.now gs) (sym (put a.kept.now a.g a.n (omega (arith, c.requires.2, height t c.requires.0.laid a.kept.now a.n c.requires.0.waiting.1, c.requires.0.enough, (c.requires.0.laid.made (at_of a.g) c.requires.0.waiting.0.in_tree).some)))) (sift_open t a.near.now (goal_of a.g) (stack_of a.kept.now a.n) c.requires.0 a.seen.now c.requires.1)), length-set a.kept.now a.n a.g ∙ c.requires.2)
