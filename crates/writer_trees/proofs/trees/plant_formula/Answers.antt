@@ -32,8 +32,8 @@ begin-requires c = let q = c.requires in
     (ranged _ _ _ _ _ (ranging_of (given (goal.at.begin-requires c).Start) q.formula q.is q.proper.vertices) q.proper.ranges_small q.proper.ranges_some, zeros_sized most_vertices)
 
 -- the closure is that of the ranges
-near_is : (c : After-begin) → let f = given c.before.before.before.before.before.before.before.before.before.before.before in (F : Formula) → Compiled f F → Proper F → Begun F c.begin.new.0
-near_is c = λ F is proper. begun_of F proper _ _ _ _ (ranging_of (given c.before.before.before.before.before.before.before.before.before.before.before) F is proper.vertices) c.begin.new.0 c.begin.ensures.sized_2 c.begin.ensures.by_index
+near_is : (c : After-begin) → let f = given c.Start in (F : Formula) → Compiled f F → Proper F → Begun F c.begin.new.0
+near_is c = λ F is proper. begun_of F proper _ _ _ _ (ranging_of (given c.Start) F is proper.vertices) c.begin.new.0 c.begin.ensures.sized_2 c.begin.ensures.by_index
 
 pub slice_bounds-grow-end : goal.slice_bounds-grow-end
 slice_bounds-grow-end c = sym (kinds_long (coded (goal.at.slice_bounds-grow-end c).Start))
