@@ -2,7 +2,8 @@
 // with #, is a remark.
 #![tactic(auto)]
 
-ghost use Rattle.std.specs.Prelude.{◌+◌, ◌≤◌, ◌==◌, min, ◌≡◌, length, take, position_or_len};
+ghost use Rattle.std.specs.Prelude.{◌+◌, ◌≤◌, ◌==◌, min, ◌≡◌, length, take};
+ghost use Rattle.std.specs.List.{position_or_len};
 ghost use Rattle.cases.specs.Hex.{digit_of, byte_of, bytes_of_hex};
 ghost use Rattle.cases.specs.Decoding.{Decodes};
 
