@@ -7,6 +7,7 @@ use lib.Dec.{T, ltb, lt→ltb, ltb→lt}
 
 is_true : (b : Bool) → T b → b ≡ true
 is_true true h = refl
+is_true false h = elim h [ ]
 
 is_false_lem : (b : Bool) → (T b → ⊥) → b ≡ false
 is_false_lem true h = absurd (h tt)

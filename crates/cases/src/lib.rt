@@ -2,8 +2,8 @@
 // with #, is a remark.
 #![tactic(auto)]
 
-ghost use Rattle.std.specs.Prelude.{◌+◌, ◌≤◌, min, ◌≡◌, length, take};
-ghost use Rattle.bytes.specs.Bytes.{index_of};
+ghost use Rattle.std.specs.Prelude.{◌+◌, ◌≤◌, ◌==◌, min, ◌≡◌, length, take};
+ghost use Rattle.std.specs.List.{position_or_len};
 ghost use Rattle.cases.specs.Hex.{digit_of, byte_of, bytes_of_hex};
 ghost use Rattle.cases.specs.Decoding.{Decodes};
 
@@ -24,22 +24,20 @@ pub enum Decoded {
 
 // A text parted at its first mark: a line from what follows it, or a field.
 pub fn cut(text: &[u8], mark: u8) -> Parting
-    ensures stop_value { result.stop ≡ index_of mark text.now }
+    ensures stop_value { result.stop ≡ position_or_len (λ b. b == mark) text.now }
     ensures next_value { result.next ≡ min (result.stop + 1) (length text.now) }
     ensures stop_in_bounds { result.stop ≤ length text.now }
     ensures stop_value_2 { result.stop ≡ length (take result.stop text.now) }
 {
-    let stop = bytes::scan::find(text, 0, text.len(), mark);
-    if stop < text.len() {
-        Parting {
-            stop: stop,
+    match text.iter().position(|b| *b == mark) {
+        Some(stop) => Parting {
+            stop,
             next: stop + 1,
-        }
-    } else {
-        Parting {
-            stop: stop,
-            next: stop,
-        }
+        },
+        None => Parting {
+            stop: text.len(),
+            next: text.len(),
+        },
     }
 }
 

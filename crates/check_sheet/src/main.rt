@@ -5,61 +5,80 @@
 mod contents;
 
 use files::{Started, Taken};
-use libc::STDERR_FILENO;
 use outcome::{Judged, Verdict};
 use printing::{line_end, text, words};
+use std::io;
+use std::rt::{Env, Files};
 
-fn passes(verdict: Verdict, asked: u8, question: &[u8], sheet: &[u8]) {
-    text(b"passes ");
-    words::verdict(verdict);
-    line_end();
+fn passes(
+    rt: &impl Print,
+    verdict: Verdict,
+    asked: u8,
+    question: &[u8],
+    sheet: &[u8],
+) -> io::Result<()> {
+    text(rt, b"passes ")?;
+    words::verdict(rt, verdict)?;
+    line_end(rt)?;
     match verdict {
-        Verdict::Yes => {}
-        Verdict::No => contents::show(asked, question, sheet),
+        Verdict::Yes => Ok(()),
+        Verdict::No => contents::show(rt, asked, question, sheet),
     }
 }
 
-fn work(asked: u8, question: &[u8], sheet: &[u8]) {
+fn work(rt: &impl Print, asked: u8, question: &[u8], sheet: &[u8]) -> io::Result<()> {
     let checked = answers::check(asked, question, sheet);
     match checked {
-        Judged::Good(verdict) => passes(verdict, asked, question, sheet),
-        Judged::Refused(number, place) => words::explained(number, place),
+        Judged::Good(verdict) => passes(rt, verdict, asked, question, sheet),
+        Judged::Refused(number, place) => words::explained(rt, number, place),
     }
 }
 
 // The sheet is the first n bytes of the room.
-fn with_room(asked: u8, question: &[u8], room: &[u8], n: usize) {
+fn with_room(rt: &impl Print, asked: u8, question: &[u8], room: &[u8], n: usize) -> io::Result<()> {
     let start = 0;
     if n <= room.len() {
-        work(asked, question, &room[start..n]);
+        work(rt, asked, question, &room[start..n])?;
     }
+    Ok(())
 }
 
-fn with_question(asked: u8, question: &[u8]) {
+fn with_question(
+    rt: &(impl Files + Env + Print),
+    told: &impl Print,
+    asked: u8,
+    question: &[u8],
+) -> io::Result<()> {
     let mut room = files::room();
-    let taken = files::read_sheet(&mut room);
+    let taken = files::read_sheet(rt, told, &mut room)?;
     match taken {
-        Taken::Whole(n) => with_room(asked, question, &room, n),
-        Taken::Start => {
-            io::write_all(STDERR_FILENO, b"the sheet is longer than 1048576 bytes\n");
-        }
-        Taken::Nothing => {}
+        Taken::Whole(n) => with_room(rt, asked, question, &room, n),
+        Taken::Start => told.write_all(b"the sheet is longer than 1048576 bytes\n"),
+        Taken::Nothing => Ok(()),
     }
 }
 
 // The question is the first n bytes.
-fn with_start(asked: u8, bytes: &[u8], n: usize) {
+fn with_start(
+    rt: &(impl Files + Env + Print),
+    told: &impl Print,
+    asked: u8,
+    bytes: &[u8],
+    n: usize,
+) -> io::Result<()> {
     let start = 0;
     if n <= bytes.len() {
-        with_question(asked, &bytes[start..n]);
+        with_question(rt, told, asked, &bytes[start..n])?;
     }
+    Ok(())
 }
 
-fn main() {
-    let mut question = io::buffer();
-    let started = files::start(&mut question);
+fn main(rt: HostRuntime) -> io::Result<()> {
+    let told = rt.stderr();
+    let mut question = [0u8; 4096];
+    let started = files::start(&rt, &told, &mut question)?;
     match started {
-        Started::Asks(asked, n) => with_start(asked, &question, n),
-        Started::Wrong => {}
+        Started::Asks(asked, n) => with_start(&rt, &told, asked, &question, n),
+        Started::Wrong => Ok(()),
     }
 }

@@ -1,16 +1,17 @@
-// What the programs write to standard output, said once: numbers, and the words for what is asked, verdicts and refusals.
+// What the programs write to standard output, said once: numbers, and the words for what is asked, verdicts and refusals. Each
+// function fails only where a write does.
 #![tactic(auto)]
 
 pub mod numbers;
 pub mod words;
 
-use libc::STDOUT_FILENO;
+use std::io;
 
 // Bytes as they are.
-pub fn text(bytes: &[u8]) {
-    io::write_all(STDOUT_FILENO, bytes);
+pub fn text(rt: &impl Print, bytes: &[u8]) -> io::Result<()> {
+    rt.write_all(bytes)
 }
 
-pub fn line_end() {
-    text(b"\n");
+pub fn line_end(rt: &impl Print) -> io::Result<()> {
+    text(rt, b"\n")
 }

@@ -2,10 +2,10 @@
 ghost use Rattle.std.specs.Prelude.{◌≡◌, nat_abs};
 
 use crate::text;
-use libc::STDOUT_FILENO;
+use std::io;
 
-pub fn count(n: usize) {
-    io::print_decimal(STDOUT_FILENO, n as u64);
+pub fn count(rt: &impl Print, n: usize) -> io::Result<()> {
+    rt.print(n)
 }
 
 // A value without its sign, from its bits: no negation that could fail at the least i32.
@@ -20,61 +20,70 @@ pub fn magnitude(z: i32) -> u64
     }
 }
 
-pub fn value(z: i32) {
+pub fn value(rt: &impl Print, z: i32) -> io::Result<()> {
     if z < 0 {
-        text(b"-");
+        text(rt, b"-")?;
     }
-    io::print_decimal(STDOUT_FILENO, magnitude(z));
+    rt.print(magnitude(z))
 }
 
 // The first n bytes, where there are as many.
-fn start(bytes: &[u8], n: usize) {
+fn start(rt: &impl Print, bytes: &[u8], n: usize) -> io::Result<()> {
     let from = 0;
     if n <= bytes.len() {
-        text(&bytes[from..n]);
+        text(rt, &bytes[from..n])?;
     }
+    Ok(())
 }
 
 // Blanks before a text of `used` characters that is to end `all` characters on, at most 12.
-pub fn blanks(used: usize, all: usize) {
+pub fn blanks(rt: &impl Print, used: usize, all: usize) -> io::Result<()> {
     let blank = [b' '; 12];
     if used <= all {
-        start(&blank, all - used);
+        start(rt, &blank, all - used)?;
+    }
+    Ok(())
+}
+
+// How many digits a number has in decimal.
+fn digits(n: u64) -> usize {
+    match n.checked_ilog10() {
+        Some(last) => last as usize + 1,
+        None => 1,
     }
 }
 
 // Blanks before a number whose text is to end `all` characters on.
-fn blanks_before(n: u64, all: usize) {
-    let mut digits = [0u8; 20];
-    let used = io::decimal(n, &mut digits);
-    blanks(used, all);
+fn blanks_before(rt: &impl Print, n: u64, all: usize) -> io::Result<()> {
+    blanks(rt, digits(n), all)
 }
 
 // A count as a cell of a table, which has 12 characters.
-pub fn count_cell(n: usize) {
-    blanks_before(n as u64, 12);
-    count(n);
+pub fn count_cell(rt: &impl Print, n: usize) -> io::Result<()> {
+    blanks_before(rt, n as u64, 12)?;
+    count(rt, n)
 }
 
 // A value as a cell of a table.
-pub fn cell(z: i32) {
+pub fn cell(rt: &impl Print, z: i32) -> io::Result<()> {
     if z < 0 {
-        blanks_before(magnitude(z), 11);
+        blanks_before(rt, magnitude(z), 11)?;
     } else {
-        blanks_before(magnitude(z), 12);
+        blanks_before(rt, magnitude(z), 12)?;
     }
-    value(z);
+    value(rt, z)
 }
 
 // The i32 values that the bytes hold, with commas between.
-pub fn row(bytes: &[u8]) {
+pub fn row(rt: &impl Print, bytes: &[u8]) -> io::Result<()> {
     let values = bytes.len() / 4;
     let mut i = 0;
     while i < values {
         if i > 0 {
-            text(b",");
+            text(rt, b",")?;
         }
-        value(ints::read_i32(bytes, 4 * i));
+        value(rt, ints::read_i32(bytes, 4 * i))?;
         i += 1;
     }
+    Ok(())
 }

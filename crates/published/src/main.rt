@@ -3,76 +3,79 @@
 #![tactic(auto)]
 
 use cases::Decoded;
-use libc::STDIN_FILENO;
 use limits::LONGEST;
 use outcome::Judged;
 use printing::{line_end, text, words};
+use std::io;
 
-fn verdict(asked: u8, question: &[u8]) {
+fn verdict(rt: &impl Print, asked: u8, question: &[u8]) -> io::Result<()> {
     let judged = answers::verdict(asked, question);
     match judged {
-        Judged::Good(verdict) => words::verdict(verdict),
-        Judged::Refused(_, _) => text(b"refused"),
+        Judged::Good(verdict) => words::verdict(rt, verdict),
+        Judged::Refused(_, _) => text(rt, b"refused"),
     }
 }
 
 // The question is the first n bytes.
-fn verdicts(bytes: &[u8], n: usize) {
+fn verdicts(rt: &impl Print, bytes: &[u8], n: usize) -> io::Result<()> {
     let start = 0;
     if n <= bytes.len() {
         let question = &bytes[start..n];
-        verdict(1, question);
-        text(b"/");
-        verdict(2, question);
+        verdict(rt, 1, question)?;
+        text(rt, b"/")?;
+        verdict(rt, 2, question)?;
     }
+    Ok(())
 }
 
 // No question has more bytes than the room.
-fn ours(digits: &[u8]) {
+fn ours(rt: &impl Print, digits: &[u8]) -> io::Result<()> {
     let mut room = [0u8; LONGEST];
     let decoded = cases::decode(digits, &mut room);
     match decoded {
-        Decoded::Bytes(n) => verdicts(&room, n),
-        Decoded::Wrong => text(b"not hexadecimal"),
+        Decoded::Bytes(n) => verdicts(rt, &room, n),
+        Decoded::Wrong => text(rt, b"not hexadecimal"),
     }
 }
 
 // The report's verdicts and ours.
-fn beside(fields: &[u8]) {
+fn beside(rt: &impl Print, fields: &[u8]) -> io::Result<()> {
     let parting = cases::cut(fields, b'\t');
     let stop = parting.stop;
     let next = parting.next;
-    text(b": report ");
-    text(&fields[..stop]);
-    text(b", ours ");
-    ours(&fields[next..]);
-    line_end();
+    text(rt, b": report ")?;
+    text(rt, &fields[..stop])?;
+    text(rt, b", ours ")?;
+    ours(rt, &fields[next..])?;
+    line_end(rt)
 }
 
-fn line(line: &[u8]) {
+fn line(rt: &impl Print, line: &[u8]) -> io::Result<()> {
     if cases::is_case(line) {
         let parting = cases::cut(line, b'\t');
         let stop = parting.stop;
         let next = parting.next;
-        text(&line[..stop]);
-        beside(&line[next..]);
+        text(rt, &line[..stop])?;
+        beside(rt, &line[next..])?;
     }
+    Ok(())
 }
 
-fn lines(input: &[u8]) {
+fn lines(rt: &impl Print, input: &[u8]) -> io::Result<()> {
     let mut at = 0;
     while at < input.len() {
         let rest = &input[at..];
         let parting = cases::cut(rest, b'\n');
         let stop = parting.stop;
-        line(&rest[..stop]);
+        line(rt, &rest[..stop])?;
         at += parting.next;
     }
+    Ok(())
 }
 
 // Of the input the first 65,536 bytes are read; the examples are half as long.
-fn main() {
-    let mut input = io::large_buffer();
-    let n = io::read_full(STDIN_FILENO, &mut input);
-    lines(&input[..n]);
+fn main(rt: HostRuntime) -> io::Result<()> {
+    let mut input = [0u8; 65536];
+    let n = files::fill(&mut rt.reader(), &mut input)?;
+    lines(&rt, &input[..n])
 }

@@ -4,64 +4,67 @@
 #![tactic(auto)]
 
 use cases::Decoded;
-use libc::STDIN_FILENO;
 use limits::LONGEST;
 use printing::{line_end, text, words};
 use question::types::Answer;
+use std::io;
 
-fn answer(bytes: &[u8]) {
+fn answer(rt: &impl Print, bytes: &[u8]) -> io::Result<()> {
     let reading = reader::read(bytes);
     let answer = reading.answer;
     match answer {
-        Answer::Good => text(b"good"),
-        Answer::Refused(number, place) => words::refusal(number, place),
+        Answer::Good => text(rt, b"good"),
+        Answer::Refused(number, place) => words::refusal(rt, number, place),
     }
 }
 
 // The answer to the first n bytes.
-fn answer_start(bytes: &[u8], n: usize) {
+fn answer_start(rt: &impl Print, bytes: &[u8], n: usize) -> io::Result<()> {
     let start = 0;
     if n <= bytes.len() {
-        answer(&bytes[start..n]);
+        answer(rt, &bytes[start..n])?;
     }
+    Ok(())
 }
 
 // No question has more bytes than the room, and no string here is longer.
-fn read(digits: &[u8]) {
+fn read(rt: &impl Print, digits: &[u8]) -> io::Result<()> {
     let mut room = [0u8; LONGEST];
     let decoded = cases::decode(digits, &mut room);
     match decoded {
-        Decoded::Bytes(n) => answer_start(&room, n),
-        Decoded::Wrong => text(b"not hexadecimal"),
+        Decoded::Bytes(n) => answer_start(rt, &room, n),
+        Decoded::Wrong => text(rt, b"not hexadecimal"),
     }
 }
 
-fn line(line: &[u8]) {
+fn line(rt: &impl Print, line: &[u8]) -> io::Result<()> {
     if cases::is_case(line) {
         let parting = cases::cut(line, b'\t');
         let stop = parting.stop;
         let next = parting.next;
-        read(&line[next..]);
-        text(b": ");
-        text(&line[..stop]);
-        line_end();
+        read(rt, &line[next..])?;
+        text(rt, b": ")?;
+        text(rt, &line[..stop])?;
+        line_end(rt)?;
     }
+    Ok(())
 }
 
-fn lines(input: &[u8]) {
+fn lines(rt: &impl Print, input: &[u8]) -> io::Result<()> {
     let mut at = 0;
     while at < input.len() {
         let rest = &input[at..];
         let parting = cases::cut(rest, b'\n');
         let stop = parting.stop;
-        line(&rest[..stop]);
+        line(rt, &rest[..stop])?;
         at += parting.next;
     }
+    Ok(())
 }
 
 // Of the input the first 65,536 bytes are read; the strings are a quarter as long.
-fn main() {
-    let mut input = io::large_buffer();
-    let n = io::read_full(STDIN_FILENO, &mut input);
-    lines(&input[..n]);
+fn main(rt: HostRuntime) -> io::Result<()> {
+    let mut input = [0u8; 65536];
+    let n = files::fill(&mut rt.reader(), &mut input)?;
+    lines(&rt, &input[..n])
 }

@@ -1,52 +1,74 @@
 // A question's two answers.
 use outcome::{Verdict, Written};
 use printing::{line_end, numbers, text, words};
+use std::io;
 
 // The rows of a no sheet: after mark, version, asked, verdict and the formula's number, four bytes a value; one row or two.
-fn rows(sheet: &[u8], columns: u8) {
+fn rows(rt: &impl Print, sheet: &[u8], columns: u8) -> io::Result<()> {
     let first = 8;
     let second = first + 4 * (columns as usize);
     if second <= sheet.len() {
-        text(b": ");
-        numbers::row(&sheet[first..second]);
+        text(rt, b": ")?;
+        numbers::row(rt, &sheet[first..second])?;
         if second < sheet.len() {
-            text(b" with ");
-            numbers::row(&sheet[second..]);
+            text(rt, b" with ")?;
+            numbers::row(rt, &sheet[second..])?;
         }
     }
+    Ok(())
 }
 
 // A sheet's line: what was asked, the verdict, the length, and the rows that show a no.
-fn sheet(asked: u8, verdict: Verdict, bytes: &[u8], columns: u8) {
-    text(b"   ");
-    words::answer(asked, verdict, bytes.len());
+fn sheet(
+    rt: &impl Print,
+    asked: u8,
+    verdict: Verdict,
+    bytes: &[u8],
+    columns: u8,
+) -> io::Result<()> {
+    text(rt, b"   ")?;
+    words::answer(rt, asked, verdict, bytes.len())?;
     match verdict {
         Verdict::Yes => {}
-        Verdict::No => rows(bytes, columns),
+        Verdict::No => rows(rt, bytes, columns)?,
     }
-    line_end();
+    line_end(rt)
 }
 
 // The sheet at the start of the room.
-fn sheet_in(asked: u8, verdict: Verdict, room: &[u8], length: usize, columns: u8) {
+fn sheet_in(
+    rt: &impl Print,
+    asked: u8,
+    verdict: Verdict,
+    room: &[u8],
+    length: usize,
+    columns: u8,
+) -> io::Result<()> {
     let start = 0;
     if length <= room.len() {
-        sheet(asked, verdict, &room[start..length], columns);
+        sheet(rt, asked, verdict, &room[start..length], columns)?;
     }
+    Ok(())
 }
 
-fn answer(asked: u8, question: &[u8], columns: u8, room: &mut [u8]) {
+fn answer(
+    rt: &impl Print,
+    asked: u8,
+    question: &[u8],
+    columns: u8,
+    room: &mut [u8],
+) -> io::Result<()> {
     let written = answers::write(asked, question, room);
     match written {
-        Written::Good(verdict, length) => sheet_in(asked, verdict, room, length, columns),
-        Written::Refused(number, place) => words::refused(number, place),
+        Written::Good(verdict, length) => sheet_in(rt, asked, verdict, room, length, columns),
+        Written::Refused(number, place) => words::refused(rt, number, place),
     }
 }
 
-pub fn show(label: &[u8], columns: u8, question: &[u8]) {
-    text(label);
-    line_end();
+pub fn show(rt: &impl Print, label: &[u8], columns: u8, question: &[u8]) -> io::Result<()> {
+    text(rt, label)?;
+    line_end(rt)?;
     let mut room = [0u8; 4096];
-    answer(1, question, columns, &mut room);
-    answer(2, question, columns, &mut room);
+    answer(rt, 1, question, columns, &mut room)?;
+    answer(rt, 2, question, columns, &mut room)
 }

@@ -1,3 +1,0 @@
-use Rattle.printing.proofs.numbers.row.Goals as goal
-
-
