@@ -1,5 +1,6 @@
 use mathlib.Core.Path.{◌≡◌, sym, ap, ◌∙◌}
 use Prim.Native.Nat.{suc, ◌-◌, ◌≤◌, ◌<◌}
+use borrow.Author.Rules.{rules}
 use native.Mathlib.Omega.{arith}
 use mir.Facts.{to_z-of_z}
 use Rattle.page_meaning.specs.Limits.{most_vertices}
@@ -14,7 +15,7 @@ use Rattle.sums.proofs.closing_sum.Goals as goal
 pub returns-then-edges-eq0 : goal.returns-then-edges-eq0
 unfolding best
 returns-then-edges-eq0 c = let m : c.args.s < most_vertices = omega (arith, c.requires.n_nonzero) in
-    (to_z-of_z {w = w64} (record { sfits = c.result-1.given }) ∙ read most_vertices c.args.g.now c.args.s c.args.s c.requires.sized.0 m m ∙ ap (λ k. best (weight c.args.g.now) (c.args.n - 1) k c.args.s c.args.s) (sym c.if-edges-eq0.true), c.requires.row_len)
+    (to_z-of_z {w = w64} (search rules) ∙ read most_vertices c.args.g.now c.args.s c.args.s c.requires.sized.0 m m ∙ ap (λ k. best (weight c.args.g.now) (c.args.n - 1) k c.args.s c.args.s) (sym c.if-edges-eq0.true), c.requires.row_len)
 
 pub least_sum-requires : goal.least_sum-requires
 least_sum-requires c = let a = c.args in

@@ -13,12 +13,11 @@ unfolding filled
 loop-v-init c = (search rules, refl)
 
 pub loop-v-preserved : goal.loop-v-preserved
-loop-v-preserved c = let l = c.loop-v in
-    (
-      search rules,
-      filled_more _ l.v c.args.row.now l.row _ l.invariant.1
-          (to_z-of_z {w = w64} (record { sfits = c.row-1.given }) ∙ read most_vertices c.args.g.now l.v c.args.s c.requires.2 (omega (arith, c.requires.0, c.requires.1, c.loop-v-test.true)) (omega (arith, c.requires.0, c.requires.1))),
-    )
+loop-v-preserved c = let l = c.loop-v in (
+  search rules,
+  filled_more _ l.v c.args.row.now l.row _ l.invariant.1
+      (to_z-of_z {w = w64} (search rules) ∙ read most_vertices c.args.g.now l.v c.args.s c.requires.2 (omega (arith, c.requires.0, c.requires.1, c.loop-v-test.true)) (omega (arith, c.requires.0, c.requires.1))),
+)
 
 pub returns : goal.returns
 returns c = let all : c.loop-v.v ≡ c.args.n = omega arith in
