@@ -1,7 +1,7 @@
 use mathlib.Core.Path.{◌≡◌}
 use mathlib.Core.Bool.{Bool, true, false}
 use mathlib.Core.List.{List}
-use Prim.Native.Nat.{ℕ}
+use Prim.Native.Nat.{ℕ, ◌<◌}
 use native.Mathlib.Omega.{arith}
 use borrow.Author.Rules.{rules}
 use borrow.Author.Count.{below_more}
@@ -11,10 +11,10 @@ use lib.Signed.{lt_z}
 use mir.Syntax.{w64}
 use mir.Val.{SFits, to_z, of_z}
 use mir.Facts.{to_z-of_z}
-use Rattle.page_walks.proofs.Sums.{exact_two, exact_three}
+use Rattle.page_walks.specs.Sizes.{wide, Bounded, RowWithin}
+use Rattle.page_walks.proofs.Sums.{exact_wide, exact_two, exact_three}
 use Rattle.page_walks.proofs.BestSums.{first_at_lem}
 use Rattle.cycles.proofs.first_closing.Goals as goal
-use Rattle.cycles.proofs.first_closing.Goals.{After-t10-1, After-t15-1}
 
 -- whether the walk can close below zero by u
 abbrev closes : List ℤ → List ℤ → ℤ → ℕ → Bool
@@ -24,36 +24,49 @@ pub loop-u-init : goal.loop-u-init
 loop-u-init c = (search rules, λ i h. absurd (omega arith))
 
 -- the numbers that are read, and their sums
-edge_fits : (c : After-t10-1) → SFits w64 (get_or c.args.edges.now c.loop-u.u (pos 0))
-edge_fits c = record { sfits = c.t10-1.given }
+module _ (n u : ℕ) (edges on : List ℤ) (sum : ℤ) (h : u < n) (s : Bounded wide sum) (r : RowWithin wide n edges) (r' : RowWithin wide n on) where
+  edge_fits : SFits w64 (get_or edges u (pos 0))
+  edge_fits = exact_wide _ (r.entry u h)
 
-on_fits : (c : After-t15-1) → SFits w64 (get_or c.args.on.now c.loop-u.u (pos 0))
-on_fits c = record { sfits = c.t15-1.given }
+  on_fits : SFits w64 (get_or on u (pos 0))
+  on_fits = exact_wide _ (r'.entry u h)
 
-two_fits : (c : After-t10-1) → SFits w64 (c.args.sum +ℤ get_or c.args.edges.now c.loop-u.u (pos 0))
-two_fits c = exact_two c.args.sum _ c.requires.bounded (c.requires.row_within.entry c.loop-u.u c.loop-u-test.true)
+  two_fits : SFits w64 (sum +ℤ get_or edges u (pos 0))
+  two_fits = exact_two sum _ s (r.entry u h)
 
-three_fits : (c : After-t15-1) → SFits w64 ((c.args.sum +ℤ get_or c.args.edges.now c.loop-u.u (pos 0)) +ℤ get_or c.args.on.now c.loop-u.u (pos 0))
-three_fits c =
-    let h = c.loop-u-test.true in
-    exact_three c.args.sum _ _ c.requires.bounded (c.requires.row_within.entry c.loop-u.u h) (c.requires.row_within_2.entry c.loop-u.u h)
+  three_fits : SFits w64 ((sum +ℤ get_or edges u (pos 0)) +ℤ get_or on u (pos 0))
+  three_fits = exact_three sum _ _ s (r.entry u h) (r'.entry u h)
 
 pub overflow_add-sum : goal.overflow_add-sum
-overflow_add-sum c = simp (to_z-of_z, c.ranges.sum, edge_fits (goal.at.overflow_add-sum c).After-t10-1) (two_fits (goal.at.overflow_add-sum c).After-t10-1)
+overflow_add-sum c = let a = c.args in
+    let r = c.requires in
+    let h = c.loop-u-test.true in
+    let u = c.loop-u.u in
+    simp (to_z-of_z, c.ranges.sum, edge_fits a.n u a.edges.now a.on.now a.sum h r.bounded r.row_within r.row_within_2) (two_fits a.n u a.edges.now a.on.now a.sum h r.bounded r.row_within r.row_within_2)
 
 pub overflow_add-sum-in-loop-u : goal.overflow_add-sum-in-loop-u
-overflow_add-sum-in-loop-u c = simp (to_z-of_z, c.ranges.sum, edge_fits (goal.at.overflow_add-sum-in-loop-u c).After-t10-1, on_fits (goal.at.overflow_add-sum-in-loop-u c).After-t15-1, two_fits (goal.at.overflow_add-sum-in-loop-u c).After-t10-1) (three_fits (goal.at.overflow_add-sum-in-loop-u c).After-t15-1)
+overflow_add-sum-in-loop-u c = let a = c.args in
+    let r = c.requires in
+    let h = c.loop-u-test.true in
+    let u = c.loop-u.u in
+    simp (to_z-of_z, c.ranges.sum, edge_fits a.n u a.edges.now a.on.now a.sum h r.bounded r.row_within r.row_within_2, on_fits a.n u a.edges.now a.on.now a.sum h r.bounded r.row_within r.row_within_2, two_fits a.n u a.edges.now a.on.now a.sum h r.bounded r.row_within r.row_within_2) (three_fits a.n u a.edges.now a.on.now a.sum h r.bounded r.row_within r.row_within_2)
 
 pub returns-then-sum-edges-lt0 : goal.returns-then-sum-edges-lt0
-returns-then-sum-edges-lt0 c = let l = c.loop-u in
-    let t : closes c.args.edges.now c.args.on.now c.args.sum l.u ≡ true = simp (to_z-of_z, c.ranges.sum, edge_fits (goal.at.returns-then-sum-edges-lt0 c).After-t10-1, on_fits (goal.at.returns-then-sum-edges-lt0 c).After-t15-1, two_fits (goal.at.returns-then-sum-edges-lt0 c).After-t10-1, three_fits (goal.at.returns-then-sum-edges-lt0 c).After-t15-1) at c.if-sum-edges-lt0.true in
-    first_at_lem _ c.args.n l.u l.invariant.0 (simp (to_z-of_z, c.ranges.sum) at l.invariant.1) (λ h. t)
+returns-then-sum-edges-lt0 c = let a = c.args in
+    let r = c.requires in
+    let h = c.loop-u-test.true in
+    let l = c.loop-u in
+    let t : closes a.edges.now a.on.now a.sum l.u ≡ true = simp (to_z-of_z, c.ranges.sum, edge_fits a.n l.u a.edges.now a.on.now a.sum h r.bounded r.row_within r.row_within_2, on_fits a.n l.u a.edges.now a.on.now a.sum h r.bounded r.row_within r.row_within_2, two_fits a.n l.u a.edges.now a.on.now a.sum h r.bounded r.row_within r.row_within_2, three_fits a.n l.u a.edges.now a.on.now a.sum h r.bounded r.row_within r.row_within_2) at c.if-sum-edges-lt0.true in
+    first_at_lem _ a.n l.u l.invariant.0 (simp (to_z-of_z, c.ranges.sum) at l.invariant.1) (λ h. t)
 
 pub loop-u-preserved : goal.loop-u-preserved
-loop-u-preserved c = let l = c.loop-u in
-    let t : closes c.args.edges.now c.args.on.now c.args.sum l.u ≡ false = simp (to_z-of_z, c.ranges.sum, edge_fits (goal.at.loop-u-preserved c).After-t10-1, on_fits (goal.at.loop-u-preserved c).After-t15-1, two_fits (goal.at.loop-u-preserved c).After-t10-1, three_fits (goal.at.loop-u-preserved c).After-t15-1) at c.if-sum-edges-lt0.false in (
-      omega (arith, c.loop-u-test.true),
-      below_more (λ (i : ℕ). closes c.args.edges.now c.args.on.now (to_z w64 (of_z w64 c.args.sum)) i ≡ false) l.u l.invariant.1 (simp (to_z-of_z, c.ranges.sum) t),
+loop-u-preserved c = let a = c.args in
+    let r = c.requires in
+    let h = c.loop-u-test.true in
+    let l = c.loop-u in
+    let t : closes a.edges.now a.on.now a.sum l.u ≡ false = simp (to_z-of_z, c.ranges.sum, edge_fits a.n l.u a.edges.now a.on.now a.sum h r.bounded r.row_within r.row_within_2, on_fits a.n l.u a.edges.now a.on.now a.sum h r.bounded r.row_within r.row_within_2, two_fits a.n l.u a.edges.now a.on.now a.sum h r.bounded r.row_within r.row_within_2, three_fits a.n l.u a.edges.now a.on.now a.sum h r.bounded r.row_within r.row_within_2) at c.if-sum-edges-lt0.false in (
+      omega (arith, h),
+      below_more (λ (i : ℕ). closes a.edges.now a.on.now (to_z w64 (of_z w64 a.sum)) i ≡ false) l.u l.invariant.1 (simp (to_z-of_z, c.ranges.sum) t),
     )
 
 pub returns : goal.returns

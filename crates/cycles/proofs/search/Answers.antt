@@ -24,7 +24,11 @@ closes c = let a = c.args in one_found (weight a.g.now) (a.n - 1) _ _ c.shortest
 pub trace-requires : goal.trace-requires
 trace-requires c = let f = closes (goal.at.trace-requires c).Else-count-eq0 in
     let m : suc (c.args.n - 1) ≡ c.args.n = omega (arith, c.requires.n_nonzero) in
-    ((c.requires.n_nonzero.0, c.requires.n_nonzero.1, omega (arith, f.here), more (goal.at.trace-requires c).Else-count-eq0, omega (arith, f.few)), (c.requires.sized, f.negative))
+    record {
+      n_nonzero = (c.requires.n_nonzero.0, c.requires.n_nonzero.1, omega (arith, f.here), more (goal.at.trace-requires c).Else-count-eq0, omega (arith, f.few));
+      sized = c.requires.sized;
+      start_bound = f.negative;
+    }
 
 pub returns : goal.returns
 returns c = let a = c.args in

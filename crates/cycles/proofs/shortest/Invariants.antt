@@ -7,7 +7,7 @@ use Rattle.cycles.proofs.Firsts.{Clear}
 use Rattle.cycles.proofs.shortest.Given as goal
 
 abbrev pub invariant-loop-s : goal.invariant-loop-s
-invariant-loop-s l = (l.s ≤ l.n) × (l.count ≡ 0) × (length l.row ≡ most_vertices) × Clear (weight l.g) (l.n - 1) l.initial.start l.s
+invariant-loop-s l = (l.s ≤ l.n) × (l.count ≡ 0) × (length l.row ≡ most_vertices) × Clear (weight l.g) (l.n - 1) l.k l.s
 
 abbrev pub decreases-loop-s : goal.decreases-loop-s
 decreases-loop-s l = l.n - l.s
