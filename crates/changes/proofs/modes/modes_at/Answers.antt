@@ -13,10 +13,10 @@ loop-i-preserved c = going_on _ _ _ _ _ _ _ _ c.loop-i.invariant c.loop-i-test.t
 
 pub returns-in-Refused : goal.returns-in-Refused
 returns-in-Refused c = record {
-      meaning =
-          going_bad _ _ _ _ _ _ _ _ c.loop-i.invariant c.loop-i-test.true _ _
-          (sym (ap mode_meant c.in-Refused.is) ∙ c.mode_at-choice.ensures);
-    }
+  meaning =
+      going_bad _ _ _ _ _ _ _ _ c.loop-i.invariant c.loop-i-test.true _ _
+      (sym (ap mode_meant c.in-Refused.is) ∙ c.mode_at-choice.ensures);
+}
 
 pub returns : goal.returns
 returns c = record { meaning = going_end _ _ _ _ _ _ _ _ c.loop-i.invariant c.loop-i-test.false }

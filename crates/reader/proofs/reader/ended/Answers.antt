@@ -10,6 +10,6 @@ returns-then-p-s c = rw (lt-ltb _ _ c.if-p-s.true) c.refusal.ensures
 pub returns : goal.returns
 unfolding ending
 returns c = record {
-      meaning = rw (le-ltb _ _ c.if-p-s.false) refl;
-      held = record { shape = c.requires.shape_held; few_tokens = c.requires.count_le_most_tokens; change = c.requires.change_held };
-    }
+  meaning = rw (le-ltb _ _ c.if-p-s.false) refl;
+  held = record { shape = c.requires.shape_held; few_tokens = c.requires.count_le_most_tokens; change = c.requires.change_held };
+}

@@ -13,9 +13,9 @@ use Rattle.reader.proofs.reader.from_widths.Goals as goal
 
 pub shape_of-shape-requires-in-Good : goal.shape_of-shape-requires-in-Good
 shape_of-shape-requires-in-Good c = record {
-      counted = good_so _ c.in-Good.is c.widths_at-read.ensures.counted;
-      changed_lt_n = c.requires.changed_lt_tables;
-    }
+  counted = good_so _ c.in-Good.is c.widths_at-read.ensures.counted;
+  changed_lt_n = c.requires.changed_lt_tables;
+}
 
 pub returns-in-Good : goal.returns-in-Good
 unfolding from_widths

@@ -13,11 +13,11 @@ loop-i-preserved c = going_on _ _ _ _ _ _ _ _ c.loop-i.invariant c.loop-i-test.t
 
 pub returns-in-Refused : goal.returns-in-Refused
 returns-in-Refused c = record {
-      meaning =
-          going_bad _ _ _ _ _ _ _ _ c.loop-i.invariant c.loop-i-test.true _ _
-          (sym (ap column_meant c.in-Refused.is) ∙ c.column_at-read.ensures);
-      sized = c.loop-i.invariant.sized;
-    }
+  meaning =
+      going_bad _ _ _ _ _ _ _ _ c.loop-i.invariant c.loop-i-test.true _ _
+      (sym (ap column_meant c.in-Refused.is) ∙ c.column_at-read.ensures);
+  sized = c.loop-i.invariant.sized;
+}
 
 pub returns : goal.returns
 returns c = record { meaning = going_end _ _ _ _ _ _ _ _ c.loop-i.invariant c.loop-i-test.false; sized = c.loop-i.invariant.sized }

@@ -18,14 +18,14 @@ loop-i-preserved c = width_on _ _ _ _ _ _ _ c.loop-i.invariant _ _ c.requires c.
 
 pub returns-in-Refused : goal.returns-in-Refused
 returns-in-Refused c = record {
-      meaning =
-          going_bad _ _ _ _ _ _ _ _ c.loop-i.invariant.going c.loop-i-test.true _ _
-          (sym (ap byte_of c.in-Refused.is) ∙ c.byte_at-b.ensures ∙ this_width _ _ _ _ _ _ _ c.loop-i.invariant);
-      counted = search rules;
-    }
+  meaning =
+      going_bad _ _ _ _ _ _ _ _ c.loop-i.invariant.going c.loop-i-test.true _ _
+      (sym (ap byte_of c.in-Refused.is) ∙ c.byte_at-b.ensures ∙ this_width _ _ _ _ _ _ _ c.loop-i.invariant);
+  counted = search rules;
+}
 
 pub returns : goal.returns
 returns c = record {
-      meaning = going_end _ _ _ _ _ _ _ _ c.loop-i.invariant.going c.loop-i-test.false;
-      counted = counted _ _ _ _ _ _ _ c.loop-i.invariant c.requires c.loop-i-test.false;
-    }
+  meaning = going_end _ _ _ _ _ _ _ _ c.loop-i.invariant.going c.loop-i-test.false;
+  counted = counted _ _ _ _ _ _ _ c.loop-i.invariant c.requires c.loop-i-test.false;
+}

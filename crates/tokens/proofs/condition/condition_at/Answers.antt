@@ -19,15 +19,15 @@ close-requires c = record {
 pub returns-in-Good : goal.returns-in-Good
 unfolding condition_at
 returns-in-Good c = record {
-      meaning =
-          on_good _ (sym (ap byte_of c.in-Good.is) ∙ c.byte_at-b.ensures)
-          (c.close.ensures.meaning ∙ ap (λ o. and_then o finish) c.tokens_at.ensures.meaning);
-      few_tokens = c.close.ensures.few_tokens;
-    }
+  meaning =
+      on_good _ (sym (ap byte_of c.in-Good.is) ∙ c.byte_at-b.ensures)
+      (c.close.ensures.meaning ∙ ap (λ o. and_then o finish) c.tokens_at.ensures.meaning);
+  few_tokens = c.close.ensures.few_tokens;
+}
 
 pub returns-in-Refused : goal.returns-in-Refused
 unfolding condition_at
 returns-in-Refused c = record {
-      meaning = c.no_condition.ensures.meaning ∙ on_bad _ (sym (ap byte_of c.in-Refused.is) ∙ c.byte_at-b.ensures);
-      few_tokens = c.no_condition.ensures.few_tokens;
-    }
+  meaning = c.no_condition.ensures.meaning ∙ on_bad _ (sym (ap byte_of c.in-Refused.is) ∙ c.byte_at-b.ensures);
+  few_tokens = c.no_condition.ensures.few_tokens;
+}

@@ -21,12 +21,12 @@ loop-i-preserved c = rw (c.compared_after-compared.ensures, c.height_after-heigh
 
 pub returns-in-Refused : goal.returns-in-Refused
 returns-in-Refused c = record {
-      meaning =
-          going_bad _ _ _ _ _ _ _ _ c.loop-i.invariant.going c.loop-i-test.true _ _
-          (sym (ap token_meant c.in-Refused.is) ∙ c.token_at-w.ensures ∙ this_token _ _ _ _ _ _ _ _ _ _ c.loop-i.invariant);
-      stand = search rules;
-      sized = c.loop-i.invariant.going.sized;
-    }
+  meaning =
+      going_bad _ _ _ _ _ _ _ _ c.loop-i.invariant.going c.loop-i-test.true _ _
+      (sym (ap token_meant c.in-Refused.is) ∙ c.token_at-w.ensures ∙ this_token _ _ _ _ _ _ _ _ _ _ c.loop-i.invariant);
+  stand = search rules;
+  sized = c.loop-i.invariant.going.sized;
+}
 
 pub returns : goal.returns
 returns c = let e : c.loop-i.i ≡ c.args.n = omega (arith, c.loop-i.invariant.going.within, c.loop-i-test.false) in
