@@ -12,5 +12,5 @@ slice_bounds-put_all-end c = sym (length-take-le c.args.count c.args.vertices (o
 pub returns : goal.returns
 unfolding puts bytes_of
 returns c = let n : length (take c.args.count c.args.vertices) ≡ c.args.count = length-take-le c.args.count c.args.vertices (omega (arith, c.requires)) in
-    c.put_all_lem.ensures
+    c.put_all.ensures
     ∙ ap (λ f. puts f (take c.args.count c.args.vertices)) (c.put-two.ensures ∙ ap₂ put_one c.put-one.ensures (sym n))

@@ -13,13 +13,13 @@ use Rattle.writer_trees.proofs.trees.put_search.Goals as goal
 use Rattle.writer_trees.proofs.trees.put_search.Goals.{After-enter}
 
 -- the facts that are searched
-facts_are : (c : After-enter) → let a = c.args in c.enter.new.0 ≡ tighten a.g.now a.e.from a.e.to a.e.weight
+facts_are : (c : After-enter) → let a = c.args in c.enter.new.g ≡ tighten a.g.now a.e.from a.e.to a.e.weight
 facts_are c = c.enter.ensures ∙ ap (tighten c.args.g.now c.args.e.from c.args.e.to) (to_z-of_z {w = w64} (fact_fits c.args.last _ _ _ c.requires.2))
 
 pub search-c-requires : goal.search-c-requires
 search-c-requires c = let a = c.args in
     let kept = subst Kept (sym (facts_are (goal.at.search-c-requires c).After-enter)) (kept_next a.last a.e.from a.e.to a.e.weight c.requires.2 a.g.now c.requires.1) in
-    ((omega arith, omega (arith, c.requires.0)), (kept.sized, kept_within _ kept (a.last + 1)))
+    record { n_nonzero = (omega arith, omega (arith, c.requires.0)); sized = (kept.sized, kept_within _ kept (a.last + 1)) }
 
 pub returns : goal.returns
 returns c = let a = c.args in
