@@ -83,8 +83,7 @@ bounds-vertices-i c = omega (arith, c.loop-i-test.true, c.requires.n_nonzero)
 pub loop-i-preserved : goal.loop-i-preserved
 loop-i-preserved c = let l = c.loop-i in
     let n = c.requires.n_nonzero in
-    let p = (goal.at.loop-i-preserved c).After-first_closing-next in
-    (
+    let p = (goal.at.loop-i-preserved c).After-first_closing-next in (
       search rules,
       omega (arith, c.loop-i-test.true),
       c.sums_back.ensures.long,

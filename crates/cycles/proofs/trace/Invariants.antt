@@ -2,7 +2,6 @@ use mathlib.Core.Path.{◌≡◌}
 use Prim.Native.Nat.{◌-◌, ◌≤◌, ◌<◌}
 use lib.ListN.{length}
 use Rattle.page_meaning.specs.Limits.{most_vertices}
-use Rattle.page_walks.specs.Grid.{row}
 use Rattle.cycles.proofs.TracedLists.{Traced}
 use Rattle.cycles.proofs.trace.Given as goal
 
