@@ -8,7 +8,7 @@ use lib.IntN.{ℤ}
 use lib.ListN.{length, get_or, take, drop, length-map, length-drop, get_or-map}
 use lib.Seq.{get_or-take, get_or-drop, length-take-le}
 use Rattle.page_meaning.specs.Limits.{most_columns}
-use Rattle.page_meaning.specs.Contents.{Range, Mode, become, columns}
+use Rattle.page_meaning.specs.Contents.{Range, Mode, become}
 use Rattle.page_meaning.specs.WellFormed.{Reads}
 use Rattle.page_questions.specs.Layout.{visible_from, question_from}
 use Rattle.question.specs.Held.{column_of, ranges_of, setting_of, condition_of, question_of}
@@ -20,7 +20,6 @@ use Rattle.page_formulas.specs.Compilation as C
 use Rattle.page_formulas.specs.Formulas.{bounded_new, bounded_all}
 use Rattle.sights.specs.Sights.{no_column, There, Whole, shown_from, no_range}
 use Rattle.pieces.specs.Pieces.{table_from, Compilable}
-use Rattle.sights.specs.declared.types.Sight.{Sight}
 use Rattle.sights.proofs.Shapes.{columns_length, first_is, changed_is, changed_length, range_at_lem, condition_is}
 use Rattle.pieces.proofs.Tests.{no_modes}
 use Rattle.formula_contexts.specs.Contexts.{Able, Under, Done, Becomes}

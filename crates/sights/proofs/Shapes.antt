@@ -7,14 +7,13 @@ use native.Mathlib.Omega.{arith}
 use borrow.Author.Tests.{eq-eqb, ne_eqb}
 use lib.ListN.{length, get_or, take, drop, length-map, get_or-map}
 use lib.Seq.{get_or-take, length-take-le}
-use Rattle.page_meaning.specs.Contents.{Range, columns, columns_of, first}
+use Rattle.page_meaning.specs.Contents.{Range, columns, first}
 use Rattle.page_questions.specs.Layout.{total, visible_from, question_from}
 use Rattle.page_questions.specs.Layout as L
 use Rattle.page_questions.proofs.Layouts.{width_there, table_length, columns_from, first_from}
 use Rattle.question.specs.Held.{column_of, ranges_of, widths_of, question_of}
 use Rattle.question.specs.Held as H
 use Rattle.question.specs.declared.types.Question.{Question}
-use Rattle.question.specs.declared.types.Column.{Column}
 use Rattle.page_formulas.specs.Formulas.{among}
 use Rattle.sights.specs.Sights.{no_range, Whole, no_column}
 

@@ -25,10 +25,9 @@ bounds-hi-next c = let l = c.loop-i in
 
 pub loop-i-preserved : goal.loop-i-preserved
 loop-i-preserved c = let l = c.loop-i in
-    let told = c.struct_told-1.given in
     let g = get_or c.args.columns l.i no_column in
-    let lo : SFits w32 g.lo = record { sfits = told.0.1 } in
-    let hi : SFits w32 g.hi = record { sfits = told.1.0.1 } in
+    let lo : SFits w32 g.lo = record { sfits = omega arith } in
+    let hi : SFits w32 g.hi = record { sfits = omega arith } in
     let a : SFits w64 c.wide.result = record { sfits = c.wide.type_inv } in
     let b : SFits w64 c.wide-in-loop-i.result = record { sfits = c.wide-in-loop-i.type_inv } in
     let d : c.wide.result ≡ g.lo = simp (to_z-of_z, lo) at c.wide.ensures in

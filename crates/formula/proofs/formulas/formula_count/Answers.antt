@@ -1,3 +1,4 @@
+use native.Mathlib.Omega.{arith}
 use mathlib.Core.Path.{sym, ◌∙◌}
 use lib.ListN.{length-map}
 use Rattle.formula.proofs.Counts.{delete_count}
@@ -6,15 +7,15 @@ use Rattle.formula.proofs.formulas.formula_count.Goals as goal
 
 pub insert_count-requires : goal.insert_count-requires
 insert_count-requires c = let q = c.args.q in
-    let g = c.well_formed.0.1.1 in (
+    (
       able q c.requires.0
-          (g.1.0.1.0.1)
-          (g.1.1.0.1.1.0.1.0.1)
-          (g.1.1.1.0.1.1.1.0.1.0.1)
-          (g.1.1.1.0.1.1.1.1.1.0.1.1.0.1.0.1)
-          (g.1.1.1.0.1.1.1.1.1.1.0.1.0.1)
+          (omega arith)
+          (omega arith)
+          (omega arith)
+          (omega arith)
+          (omega arith)
           c.requires.1,
-      g.0.1.1.1.1.0.1.0.1,
+      omega arith,
       c.in-Insert.is,
     )
 

@@ -1,3 +1,4 @@
+use native.Mathlib.Omega.{arith}
 use mathlib.Core.Path.{refl, sym, ◌∙◌, subst}
 use lib.Dec.{eqb}
 use lib.ListN.{length-map}
@@ -15,18 +16,18 @@ use Rattle.formula.proofs.formulas.outline.Goals.{Start}
 
 -- what is known of the question at the start
 whole : (c : Start) → Whole c.args.q
-whole c = record { held = c.requires.1; long = c.well_formed.1.1.1.1.0.1.1.1.0.1.0.1 }
+whole c = record { held = c.requires.1; long = omega arith }
 
 built : (c : Start) → Buildable c.args.q.change.verb c.args.q
 built c =
     let q = c.args.q in
-    let g = c.well_formed.1.1.1.1.0.1.1 in
+    
     buildable q c.requires.1
     (whole c).long
-    (g.1.1.0.1.1.0.1.0.1)
-    (g.1.1.1.0.1.1.1.0.1.0.1)
-    (g.1.1.1.0.1.1.1.1.1.0.1.1.0.1.0.1)
-    (g.1.1.1.0.1.1.1.1.1.1.0.1.0.1)
+    (omega arith)
+    (omega arith)
+    (omega arith)
+    (omega arith)
     c.requires.2
 
 which : (c : Start) → let a = c.args in Found a.q a.q.change.verb (eqb a.asked 1) a.i (F.formulas (question_of a.q) a.asked)

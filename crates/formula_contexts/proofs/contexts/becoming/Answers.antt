@@ -18,7 +18,7 @@ loop-j-init c = (omega arith, record { long = refl; same = refl })
 pub loop-j-preserved : goal.loop-j-preserved
 loop-j-preserved c = let a = c.args in
     let l = c.loop-j in
-    let f : SFits w32 (get_or a.row.values l.j (pos 0)) = record { sfits = c.k-1.given } in
+    let f : SFits w32 (get_or a.row.values l.j (pos 0)) = record { sfits = omega arith } in
     (search rules, rw (to_z-of_z f) (fill_more become setting_of most_columns a.row.values l.settings l.j (search rules) l.invariant.1 _ (pos 0) refl c.loop-j-test.true))
 
 pub returns : goal.returns

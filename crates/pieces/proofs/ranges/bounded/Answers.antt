@@ -26,10 +26,10 @@ pub emit-requires : goal.emit-requires
 emit-requires c = room_left 1 0 c.requires.0 (more (more c.at_most-one.ensures c.emit-two.ensures) c.at_most-three.ensures)
 
 pub returns : goal.returns
-returns c = let told = c.struct_told-1.given in
+returns c =
     let a = c.args in
-    let lo : SFits w32 a.g.lo = record { sfits = told.0.1 } in
-    let hi : SFits w32 a.g.hi = record { sfits = told.1.0.1 } in
+    let lo : SFits w32 a.g.lo = record { sfits = omega arith } in
+    let hi : SFits w32 a.g.hi = record { sfits = omega arith } in
     said
     (ap₂
     (λ h l. comparison at_most (term_of a.t) h ++ (and_i ∷ (comparison at_least (term_of a.t) l ++ (and_i ∷ []))))

@@ -9,6 +9,6 @@ returns-then-modes-j c = (mode_past c.args.s c.args.i c.if-s.true c.if-at-first.
 
 pub returns-then-s : goal.returns-then-s
 returns-then-s c = (
-      mode_inside c.args.s c.args.i c.if-s.true c.if-at-first.false c.if-modes-j.false,
-      mode_reads c.args.s c.args.i c.if-s.true c.requires c.if-modes-j.false,
-    )
+  mode_inside c.args.s c.args.i c.if-s.true c.if-at-first.false c.if-modes-j.false,
+  mode_reads c.args.s c.args.i c.if-s.true c.requires c.if-modes-j.false,
+)

@@ -1,3 +1,4 @@
+use native.Mathlib.Omega.{arith}
 use mir.Facts.{to_z-of_z}
 use mir.Syntax.{w32, w64}
 use mir.Val.{SFits}
@@ -13,14 +14,14 @@ term_at-t-requires c = (c.requires.0, rw (ap side_of c.in-Column.is) at c.requir
 pub sum-requires : goal.sum-requires
 sum-requires c = let t = c.term_at-t in
     let k = c.in-Column.k in
-    let f : SFits w32 k = record { sfits = c.in-Column.known_told-in-Column-1-own.given.1.0.1 } in
+    let f : SFits w32 k = record { sfits = omega arith } in
     let g : SFits w64 c.wide-in-Column.result = record { sfits = c.wide-in-Column.type_inv } in
     let e : c.wide-in-Column.result ≡ k = simp (to_z-of_z, f) at c.wide-in-Column.ensures in
     rw (to_z-of_z g, e, to_z-of_z (stands_fits _ _ t.ensures)) (plus_fits _ _ k t.ensures f)
 
 pub returns-in-Constant : goal.returns-in-Constant
 returns-in-Constant c = let k = c.in-Constant.k in
-    let f : SFits w32 k = record { sfits = c.in-Constant.known_told-1-own.given.0.1 } in
+    let f : SFits w32 k = record { sfits = omega arith } in
     let g : SFits w64 c.wide.result = record { sfits = c.wide.type_inv } in
     let e : c.wide.result ≡ k = simp (to_z-of_z, f) at c.wide.ensures in
     rw (to_z-of_z g, e, ap side_of c.in-Constant.is) (refl, near_constant 0 k f)
@@ -28,7 +29,7 @@ returns-in-Constant c = let k = c.in-Constant.k in
 pub returns-in-Column : goal.returns-in-Column
 returns-in-Column c = let t = c.term_at-t in
     let k = c.in-Column.k in
-    let f : SFits w32 k = record { sfits = c.in-Column.known_told-in-Column-1-own.given.1.0.1 } in
+    let f : SFits w32 k = record { sfits = omega arith } in
     let g : SFits w64 c.wide-in-Column.result = record { sfits = c.wide-in-Column.type_inv } in
     let e : c.wide-in-Column.result ≡ k = simp (to_z-of_z, f) at c.wide-in-Column.ensures in
     let h : SFits w64 c.sum.result = record { sfits = c.sum.type_inv } in

@@ -1,3 +1,4 @@
+use native.Mathlib.Omega.{arith}
 use mir.Facts.{to_z-of_z}
 use mir.Syntax.{w32, w64}
 use mir.Val.{SFits}
@@ -17,7 +18,7 @@ returns-in-Keep c = let a = c.args in
 pub returns-in-Become : goal.returns-in-Become
 returns-in-Become c = let a = c.args in
     let k = c.in-Become.k in
-    let f : SFits w32 k = record { sfits = c.in-Become.known_told-1-own.given.0.1 } in
+    let f : SFits w32 k = record { sfits = omega arith } in
     let g : SFits w64 c.wide.result = record { sfits = c.wide.type_inv } in
     let e : c.wide.result ≡ k = simp (to_z-of_z, f) at c.wide.ensures in
     rw (to_z-of_z g, e) (stands_become a.s a.i k (sym c.mode_at-mode.ensures.0 ∙ ap mode_of c.in-Become.is) f)
@@ -26,7 +27,7 @@ pub returns-in-Shift : goal.returns-in-Shift
 returns-in-Shift c = let a = c.args in
     let j = c.in-Shift.j in
     let k = c.in-Shift.k in
-    let f : SFits w32 k = record { sfits = c.in-Shift.known_told-in-Shift-1-own.given.1.0.1 } in
+    let f : SFits w32 k = record { sfits = omega arith } in
     let g : SFits w64 c.wide-in-Shift.result = record { sfits = c.wide-in-Shift.type_inv } in
     let e : c.wide-in-Shift.result ≡ k = simp (to_z-of_z, f) at c.wide-in-Shift.ensures in
     rw (to_z-of_z g, e) (stands_shift a.s a.i c.vertex_in-in-Shift.result j k (sym c.mode_at-mode.ensures.0 ∙ ap mode_of c.in-Shift.is) c.vertex_in-in-Shift.ensures f)
