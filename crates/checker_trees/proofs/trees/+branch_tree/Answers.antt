@@ -1,8 +1,9 @@
-use Prim.Native.Nat.{ℕ, ◌+◌, ◌-◌, ◌≤◌, ◌<◌}
+use Prim.Native.Nat.{ℕ, ◌-◌, ◌≤◌, ◌<◌}
 use mathlib.Core.Path.{◌≡◌, refl, sym, ap, ◌∙◌}
 use mathlib.Core.List.{List}
 use lib.Dec.{eqb}
 use native.Mathlib.Omega.{arith}
+use borrow.Author.Rules.{rules}
 use lib.ListN.{length, length-map}
 use mir.Syntax.{w64}
 use mir.Val.{SFits}
@@ -22,7 +23,7 @@ branch-tree-one-requires t c =
     let a = c.args in
     let q = c.requires in
     let l = c.loop-p in
-    let fits : SFits w64 a.stage.fact.weight = record { sfits = c.struct_told-1.given.1.1.0.1 } in
+    let fits : SFits w64 a.stage.fact.weight = search rules in
     let less = half_less _ _ _ _ _ q.lendable a.g.now a.stage q.todo_in_bounds.0 q.todo_nonzero.0 q.todo_in_bounds.1 fits _ c.tighten-facts.ensures l.at l.truth _ c.added-fact.ensures c.below-next.result c.below-next.ensures in
     let ready = half_ready _ _ _ _ _ q.lendable a.g.now a.stage q.todo_in_bounds.0 q.todo_nonzero.0 q.todo_in_bounds.1 fits _ c.tighten-facts.ensures l.at l.truth _ c.added-fact.ensures c.below-next.result c.below-next.ensures in
     (omega (arith, less, c.decreases), (q.lendable, ready))
@@ -32,7 +33,7 @@ branch-returns-in-Refused t c = λ F base lent shows.
     let a = c.args in
     let q = c.requires in
     let l = c.loop-p in
-    let fits : SFits w64 a.stage.fact.weight = record { sfits = c.struct_told-1.given.1.1.0.1 } in
+    let fits : SFits w64 a.stage.fact.weight = search rules in
     let few = q.todo_in_bounds.0 in
     let room : length a.left.now - a.stage.todo < length a.stage.truths = room_of a.left.now a.stage.truths a.stage.todo c.well_formed.1.1.1.1.1.1.1.0.1.1.1.0.1.0.1 q.lendable.places.few few q.todo_nonzero.0 in
     left_refused F a.stage.truths (with_fact a.g.now a.stage.fact) a.part.now a.stage.at base a.stage.todo q.todo_nonzero.1 q.todo_nonzero.2 a.kinds.now a.left.now a.right.now a.most.now lent (λ none. omega (arith, none, q.todo_nonzero.0)) few _ refl room l.truth l.at _ _ (eqb l.truth 1) l.invariant.0 (λ z. rw z) (λ z. rw z) l.invariant.1 (λ z. l.invariant.2 z F base lent shows)
@@ -43,7 +44,7 @@ branch-returns-then-truth-eq0 t c = λ F base lent shows.
     let a = c.args in
     let q = c.requires in
     let l = c.loop-p in
-    let fits : SFits w64 a.stage.fact.weight = record { sfits = c.struct_told-1.given.1.1.0.1 } in
+    let fits : SFits w64 a.stage.fact.weight = search rules in
     let few = q.todo_in_bounds.0 in
     let room : length a.left.now - a.stage.todo < length a.stage.truths = room_of a.left.now a.stage.truths a.stage.todo c.well_formed.1.1.1.1.1.1.1.0.1.1.1.0.1.0.1 q.lendable.places.few few q.todo_nonzero.0 in
     let second = half_says _ _ _ _ _ q.lendable a.g.now a.stage few q.todo_nonzero.0 q.todo_in_bounds.1 fits _ c.tighten-facts.ensures l.at l.truth _ c.added-fact.ensures c.below-next.result c.below-next.ensures a.part.now F base _ (sym (ap (outcome_of base a.part.now) c.in-Good.is) ∙ c.tree-one.ensures F base lent shows) in
