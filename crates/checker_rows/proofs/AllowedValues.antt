@@ -5,7 +5,7 @@ use mathlib.Core.Bool.{Bool, true, false, ◌&&◌, ◌||◌, not}
 use lib.ListN.{get_or, take, get_or-map}
 use lib.Seq.{get_or-take}
 use lib.IntN.{ℤ}
-use Rattle.page_meaning.specs.Contents.{in_range, columns}
+use Rattle.page_meaning.specs.Contents.{in_range}
 use Rattle.question.specs.Held.{question_of, column_of}
 use Rattle.question.specs.Held as H
 use Rattle.question.specs.declared.types.Question.{Question}

@@ -1,2 +1,3 @@
+pub mod Halves
 pub mod NodeReading
 pub mod NoFact

@@ -36,7 +36,7 @@ loop-j-preserved c = let l = c.loop-j in
     let s = c.args.sheet.now in
     let r = c.read_i32-z in
     let e = r.ensures ∙ ap (int32 s) c.field_at.ensures in
-    let w : to_z w64 (of_z w64 c.wide.result) ≡ value_at s l.j = to_z-of_z {w = w64} (record { sfits = c.wide.type_inv }) ∙ c.wide.ensures ∙ to_z-of_z {w = w64} (record { sfits = r.type_inv }) ∙ e in
+    let w : to_z w64 (of_z w64 c.wide.result) ≡ value_at s l.j = to_z-of_z {w = w64} (record { sfits = c.wide.type_inv }) ∙ c.wide.ensures ∙ to_z-of_z {w = w32} (record { sfits = r.type_inv }) ∙ e in
     let g : SFits w32 r.result = record { sfits = r.type_inv } in
     let f : SFits w32 (value_at s l.j) = rw e at g in
     rw w (

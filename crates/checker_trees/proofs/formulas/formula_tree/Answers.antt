@@ -1,7 +1,7 @@
 use Prim.Native.Nat.{◌+◌}
 use mathlib.Core.Path.{◌≡◌, sym, subst, ◌∙◌}
 use native.Mathlib.Omega.{arith}
-use lib.ListN.{length, length-map, take}
+use lib.ListN.{length, take}
 use Rattle.page_meaning.specs.Limits.{most_vertices}
 use Rattle.page_walks.specs.Grid.{far, far_n, tighten}
 use Rattle.page_walks.specs.Sizes.{Sized, AllWithin}
@@ -31,7 +31,7 @@ used : (s : Start) → let a = s.args in let n = a.o.places in (length (take n a
 used s = places_long (coded_of (lent s) s.requires.formula s.requires.is)
 
 flags : (s : Start) → length s.args.o.vertices.present ≡ most_vertices
-flags s = sym (length-map s.args.o.vertices.present _) ∙ s.well_formed.1.1.1.1.0.1.1.1.1.1.0.1.1.1.0.1.0.1
+flags s = s.well_formed.1.1.1.1.0.1.1.1.1.1.0.1.1.1.0.1.0.1
 
 pub slice_bounds-used-end : goal.slice_bounds-used-end
 slice_bounds-used-end c = sym (instructions (goal.at.slice_bounds-used-end c).Start)
@@ -57,7 +57,7 @@ root o = record { sized = grid_sized o; small = subst (AllWithin far_n most_vert
 
 pub tree-requires : goal.tree-requires
 tree-requires c = let i = c.requires in
-    (record { short = omega (arith, instructions (goal.at.tree-requires c).Start, count_few (lent (goal.at.tree-requires c).Start) i.formula i.is i.proper); places = places_of (lent (goal.at.tree-requires c).Start) i.formula i.is i.proper; flags = omega (arith, flags (goal.at.tree-requires c).Start) }, (omega (arith, (used (goal.at.tree-requires c).Start).0), root (goal.at.tree-requires c).After-start-g))
+    record { lendable = record { short = omega (arith, instructions (goal.at.tree-requires c).Start, count_few (lent (goal.at.tree-requires c).Start) i.formula i.is i.proper); places = places_of (lent (goal.at.tree-requires c).Start) i.formula i.is i.proper; flags = omega (arith, flags (goal.at.tree-requires c).Start) }; todo_in_bounds = (omega (arith, (used (goal.at.tree-requires c).Start).0), root (goal.at.tree-requires c).After-start-g) }
 
 pub returns : goal.returns
 returns c = λ F base is.
