@@ -1,6 +1,6 @@
 -- Laws for the writer's recursion: a node is written, then one half and the other; the facts and their closure go down with each decision.
 use Prim.Native.Nat.{ℕ, suc, ◌≤◌, ◌<◌}
-use mathlib.Core.Path.{◌≡◌, refl, sym, ap, ◌∙◌}
+use mathlib.Core.Path.{◌≡◌, refl, sym, ap, ap₂, ◌∙◌, subst}
 use mathlib.Core.Bool.{Bool, true, false, cond}
 use mathlib.Core.Option.{Option, none, some}
 use mathlib.Core.List.{List}
@@ -12,8 +12,9 @@ use lib.Signed.{◌≤ℤ◌, lt_z}
 use Rattle.page_numbers.specs.Numbers.{up, dn}
 use Rattle.page_numbers.proofs.Bridge.{ints, eq_out}
 use Rattle.page_numbers.proofs.Machine.{machine, lt_false}
+use mir.Facts.{to_z-of_z}
 use mir.Syntax.{w64}
-use mir.Val.{SFits}
+use mir.Val.{SFits, to_z, of_z}
 use Rattle.page_meaning.specs.Limits.{most_vertices}
 use Rattle.page_walks.specs.Grid.{Grid, weight, tighten, far, far_n}
 use Rattle.page_walks.specs.Sizes.{least_weight, Bounded, Sized, AllWithin}
@@ -26,7 +27,7 @@ use Rattle.page_sheets.specs.Tree.{bytes_of, cycle}
 use Rattle.page_sheets.specs.Growth.{Growth, shut, open_at, join}
 use Rattle.room.specs.Room.{Filling, filling, put_one, puts}
 use Rattle.goals.specs.Closures.{Tight, Closer}
-use Rattle.goals.proofs.Tightening.{closer_tabled}
+use Rattle.goals.proofs.Tightening.{closer_tabled, sum_fits}
 use Rattle.writer_trees.specs.Trees.{Grows, Growable, cut_bytes, with}
 use Rattle.grid.specs.Edges.{Fact, Kept}
 use Rattle.room.specs.declared.Spot.{Spot}
@@ -76,6 +77,17 @@ module _ (last from to : ℕ) (k : ℤ) (fact : Fact last from to k) where
     ceiling = λ u v. omega (ints, tighten_le g from to k u v, kept.ceiling u v);
     floor = λ u v. tighten_keeps (λ z. dn z ≤ least_weight) g from to k u v (kept.floor u v) (λ a b. fact.low);
   }
+
+-- the sum that tells whether it closes a negative cycle, as the code has it
+module _ (last : ℕ) (near : Grid) (tight : Tight (suc last) near) (from to : ℕ) (k : ℤ) (fact : Fact last from to k) (r : ℤ) (fits : SFits w64 r) (is : r ≡ weight near to from) where
+  sum_parts : to_z w64 (of_z w64 r) +ℤ to_z w64 (of_z w64 k) ≡ weight near to from +ℤ k
+  sum_parts = ap₂ ◌+ℤ◌ (to_z-of_z {w = w64} fits ∙ is) (to_z-of_z {w = w64} (fact_fits last from to k fact))
+
+  pub code_fits : SFits w64 (to_z w64 (of_z w64 r) +ℤ to_z w64 (of_z w64 k))
+  code_fits = subst (SFits w64) (sym sum_parts) (sum_fits last near tight from to k fact to fact.to_is)
+
+  pub code_sum : to_z w64 (of_z w64 (to_z w64 (of_z w64 r) +ℤ to_z w64 (of_z w64 k))) ≡ weight near to from +ℤ k
+  code_sum = to_z-of_z {w = w64} code_fits ∙ sum_parts
 
 -- the table of least sums with it, where it closes no negative cycle
 pub with_closer : (last : ℕ) → last < most_vertices → (near : Grid) → Sized most_vertices near → Tight (suc last) near → (from to : ℕ) (k : ℤ) → Fact last from to k → pos 0 ≤ℤ (weight near to from +ℤ k) → Closer (suc last) near from to k (with last near from to k)

@@ -1,67 +1,80 @@
 use native.Mathlib.Omega.{arith}
-use Prim.Native.Nat.{◌-◌}
+use Prim.Native.Nat.{ℕ, ◌-◌, ◌<◌}
 use mathlib.Core.Path.{◌≡◌, refl, sym}
-use lib.ListN.{length}
+use mathlib.Core.List.{List}
+use lib.ListN.{length, take}
+use lib.IntN.{ℤ}
 use Rattle.page_formulas.specs.Formulas.{Formula}
 use Rattle.page_formulas.specs.ProperFormulas.{Proper}
-use Rattle.program.specs.Lent.{Coded}
 use Rattle.program.specs.Formulas as compiled
 use Rattle.program.specs.Compiled.{Compiled, formula_of}
 use Rattle.program.proofs.Loans.{kinds_long, places_long}
 use Rattle.program.proofs.Ranges.{coded_of, ranging_of, ranged}
 use Rattle.page_meaning.specs.Limits.{most_vertices}
-use Rattle.program_tree.specs.Nodes.{tree_of, Tells}
+use Rattle.page_walks.specs.Grid.{Grid, weight}
+use Rattle.page_walks.specs.Sizes.{Sized}
+use Rattle.program_tree.specs.Nodes.{tree_of, Tells, Filled}
+use Rattle.spreads.specs.Spread.{spread}
 use Rattle.program_tree.proofs.Trees.{plantable, tells}
 use Rattle.spreads.proofs.RangeClosure.{zeros_sized}
 use Rattle.writer_trees.proofs.RootTrees.{Begun, begun_of}
 use Rattle.writer_leaves.proofs.Roots.{root_opening, root_values, root_descendable, root_leaf}
 use Rattle.writer_leaves.proofs.first_leaf.Goals as goal
-use Rattle.writer_leaves.proofs.first_leaf.Goals.{After-begin, After-lay, Start}
 
--- the formula that is lent
-abbrev given : Start → compiled.Formula
-given s = let a = s.args in formula_of a.kinds.now a.left.now a.right.now a.most.now a.t5
-
--- its program
-coded : (s : Start) → let p = (given s).program in Coded s.requires.formula p.kinds p.count p.left p.right p.most p.places
-coded s = coded_of (given s) s.requires.formula s.requires.is
-
-pub begin-requires : goal.begin-requires
-begin-requires c = let q = c.requires in
-    (ranged _ _ _ _ _ (ranging_of (given (goal.at.begin-requires c).Start) q.formula q.is q.proper.vertices) q.proper.ranges_small q.proper.ranges_some, zeros_sized most_vertices)
-
-pub lay-requires : goal.lay-requires
-lay-requires c = (plantable c.requires.formula _ _ _ _ _ _ (coded (goal.at.lay-requires c).Start) c.requires.proper, refl, refl)
-
-pub slice_bounds-descend-end : goal.slice_bounds-descend-end
-slice_bounds-descend-end c = sym (kinds_long (coded (goal.at.slice_bounds-descend-end c).Start))
-
-pub slice_bounds-descend-end-2 : goal.slice_bounds-descend-end-2
-slice_bounds-descend-end-2 c = sym (places_long (coded (goal.at.slice_bounds-descend-end-2 c).Start)).0
-
-pub slice_bounds-descend-end-3 : goal.slice_bounds-descend-end-3
-slice_bounds-descend-end-3 c = sym (places_long (coded (goal.at.slice_bounds-descend-end-3 c).Start)).1
-
-pub slice_bounds-descend-end-4 : goal.slice_bounds-descend-end-4
-slice_bounds-descend-end-4 c = sym (places_long (coded (goal.at.slice_bounds-descend-end-4 c).Start)).2
+-- what is lent of the formula is as long as said
+lent_long : (f : compiled.Formula) (F : Formula) → Compiled f F → let p = f.program in (length (take p.count p.kinds) ≡ p.count) × (length (take p.places p.left) ≡ p.places) × (length (take p.places p.right) ≡ p.places) × (length (take p.places p.most) ≡ p.places)
+lent_long f F is =
+    let k = coded_of f F is in
+    let l = places_long k in
+    (kinds_long k, l.0, l.1, l.2)
 
 -- the closure is that of the ranges
-near_is : (c : After-begin) → let f = given c.before.before.before.before.before in (F : Formula) → Compiled f F → Proper F → Begun F c.begin.new.0
-near_is c = λ F is proper. begun_of F proper _ _ _ _ (ranging_of (given c.before.before.before.before.before) F is proper.vertices) c.begin.new.0 c.begin.ensures.sized_2 c.begin.ensures.by_index
+near_is : (f : compiled.Formula) (F : Formula) → Compiled f F → Proper F → (near : Grid) → Sized most_vertices near → ((u v : ℕ) → u < f.vertices.count → v < f.vertices.count → weight near u v ≡ spread f.vertices.present f.vertices.lo f.vertices.hi u v) → Begun F near
+near_is f F is proper near sized spreads = begun_of F proper _ _ _ _ (ranging_of f F is proper.vertices) near sized spreads
 
 -- and the tree is the formula's
-tells_is : (c : After-lay) → let f = given c.before.before.before.before.before.before.before.before.before in (F : Formula) → Compiled f F → Proper F → Tells (tree_of c.lay.new.1.1.1.1.1.0 c.lay.new.1.1.1.1.1.1.0 (record { count = f.program.count; last = f.vertices.count - 1 })) F.program
-tells_is c = λ F is proper. let f = given c.before.before.before.before.before.before.before.before.before in tells F _ _ _ _ _ _ (coded_of f F is) proper c.lay.new.1.1.1.1.1.0 c.lay.new.1.1.1.1.1.1.0 c.lay.ensures (record { count = f.program.count; last = f.vertices.count - 1 }) refl (omega (arith, is.vertices.count))
+tells_is : (f : compiled.Formula) (F : Formula) → Compiled f F → Proper F → (nodes : List (List ℕ)) (weights : List ℤ) → Filled f.program.kinds f.program.left f.program.right f.program.most nodes weights f.program.count → Tells (tree_of nodes weights (record { count = f.program.count; last = f.vertices.count - 1 })) F.program
+tells_is f F is proper nodes weights filled = tells F _ _ _ _ _ _ (coded_of f F is) proper nodes weights filled (record { count = f.program.count; last = f.vertices.count - 1 }) refl (omega (arith, is.vertices.count))
+
+pub begin-requires : goal.begin-requires
+begin-requires c = let a = c.args in
+    let q = c.requires in record {
+      ranged = ranged _ _ _ _ _ (ranging_of (formula_of a.kinds.now a.left.now a.right.now a.most.now a.o) q.formula q.is q.proper.vertices) q.proper.ranges_small q.proper.ranges_some;
+      sized = zeros_sized most_vertices;
+    }
+
+pub lay-requires : goal.lay-requires
+lay-requires c = let a = c.args in
+    let q = c.requires in
+    (plantable q.formula _ _ _ _ _ _ (coded_of (formula_of a.kinds.now a.left.now a.right.now a.most.now a.o) q.formula q.is) q.proper, refl, refl)
+
+pub slice_bounds-descend-end : goal.slice_bounds-descend-end
+slice_bounds-descend-end c = let a = c.args in sym (lent_long (formula_of a.kinds.now a.left.now a.right.now a.most.now a.o) c.requires.formula c.requires.is).0
+
+pub slice_bounds-descend-end-2 : goal.slice_bounds-descend-end-2
+slice_bounds-descend-end-2 c = let a = c.args in sym (lent_long (formula_of a.kinds.now a.left.now a.right.now a.most.now a.o) c.requires.formula c.requires.is).1
+
+pub slice_bounds-descend-end-3 : goal.slice_bounds-descend-end-3
+slice_bounds-descend-end-3 c = let a = c.args in sym (lent_long (formula_of a.kinds.now a.left.now a.right.now a.most.now a.o) c.requires.formula c.requires.is).2
+
+pub slice_bounds-descend-end-4 : goal.slice_bounds-descend-end-4
+slice_bounds-descend-end-4 c = let a = c.args in sym (lent_long (formula_of a.kinds.now a.left.now a.right.now a.most.now a.o) c.requires.formula c.requires.is).3
 
 pub descend-requires : goal.descend-requires
-descend-requires c = let q = c.requires in
-    let e : c.args.t5.vertices.count - 1 ≡ length q.formula.ranges = omega (arith, q.is.vertices.count) in
-    root_descendable q.formula _ _ _ _ _ _ (coded (goal.at.descend-requires c).Start) q.proper _ (tells_is (goal.at.descend-requires c).After-lay q.formula q.is q.proper) e _ (near_is (goal.at.descend-requires c).After-begin q.formula q.is q.proper) q.values q.opens
+descend-requires c = let a = c.args in
+    let f = formula_of a.kinds.now a.left.now a.right.now a.most.now a.o in
+    let q = c.requires in
+    let e : a.o.vertices.count - 1 ≡ length q.formula.ranges = omega (arith, q.is.vertices.count) in
+    let w = tells_is f q.formula q.is q.proper c.lay.new.nodes c.lay.new.weights c.lay.ensures in
+    let n = near_is f q.formula q.is q.proper c.begin.new.near c.begin.ensures.sized_2 c.begin.ensures.by_index in
+    root_descendable q.formula _ _ _ _ _ _ (coded_of f q.formula q.is) q.proper _ w e _ n q.values q.opens
 
 pub returns : goal.returns
 returns c = λ F x is proper opens.
-    let e : c.args.t5.vertices.count - 1 ≡ length F.ranges = omega (arith, is.vertices.count) in
-    let k = coded_of (given (goal.at.returns c).Start) F is in
-    let w = tells_is (goal.at.returns c).After-lay F is proper in
-    let n = near_is (goal.at.returns c).After-begin F is proper in
+    let a = c.args in
+    let f = formula_of a.kinds.now a.left.now a.right.now a.most.now a.o in
+    let e : a.o.vertices.count - 1 ≡ length F.ranges = omega (arith, is.vertices.count) in
+    let k = coded_of f F is in
+    let w = tells_is f F is proper c.lay.new.nodes c.lay.new.weights c.lay.ensures in
+    let n = near_is f F is proper c.begin.new.near c.begin.ensures.sized_2 c.begin.ensures.by_index in
     root_leaf F _ _ _ _ _ _ k proper _ w e _ n x opens c.descend.result (c.descend.ensures F (root_values F _ _ _ _ _ _ k proper _ w e _ n x opens) (root_opening F _ _ _ _ _ _ k proper _ w e _ n x opens))

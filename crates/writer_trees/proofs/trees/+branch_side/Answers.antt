@@ -5,29 +5,26 @@ use mathlib.Core.Bool.{Bool, true, false}
 use mathlib.Core.List.{List}
 use native.Mathlib.Numerals.{add-one}
 use native.Mathlib.Omega.{arith}
-use lib.IntN.{ℤ, pos, neg_ℤ, ◌+ℤ◌, ◌-ℤ◌}
+use lib.IntN.{ℤ, pos, neg_ℤ, ◌-ℤ◌}
 use lib.ListN.{length, get_or}
 use mir.Facts.{to_z-of_z}
 use mir.Syntax.{w64}
 use mir.Val.{SFits, to_z, of_z}
 use borrow.Author.Rules.{rules}
-use Rattle.page_numbers.proofs.Bridge.{+law}
-use Rattle.page_numbers.proofs.Machine.{machine}
 use Rattle.page_meaning.specs.Limits.{most_decisions}
 use Rattle.page_walks.specs.Grid.{Grid, weight, tighten}
 use Rattle.page_walks.specs.Sizes.{tabled}
-use Rattle.page_walks.specs.Nearness.{relax, Triangle}
+use Rattle.page_walks.specs.Nearness.{relax}
 use Rattle.truth.specs.Cells.{three_of}
 use Rattle.program.specs.Lent.{place_at}
 use Rattle.page_sheets.specs.Facts.{taken}
 use Rattle.grid.specs.Edges.{Fact}
-use Rattle.goals.specs.Closures.{Tight}
 use Rattle.goals.proofs.Tightening.{tight_within}
 use Rattle.writer_trees.specs.Trees.{Growable, side_by}
 use Rattle.writer_trees.specs.declared.trees.Half.{Half}
 use Rattle.writer_trees.specs.declared.trees.Node.{Node}
 use Rattle.writer_trees.proofs.NodeHalves.{branch_both, side_false, side_cut, side_true, side_end, side_calm}
-use Rattle.writer_trees.proofs.Growths.{fact_bounded, fact_fits, ready_handed, grows_over}
+use Rattle.writer_trees.proofs.Growths.{fact_fits, code_fits, code_sum, ready_handed, grows_over}
 use Rattle.writer_trees.proofs.trees.+branch_side.Goals as goal
 
 -- ---- the next place, from the places that are left
@@ -48,25 +45,6 @@ module _ (n : Node) (left right : List ℕ) (most : List ℤ) (g near : Grid) (r
   -- the constant of its false half
   no_constant : (z : ℤ) → SFits w64 z → z ≡ neg_ℤ (to_z w64 (of_z w64 (get_or most (length most - n.undecided) (pos 0)))) -ℤ pos 1 → to_z w64 (of_z w64 z) ≡ (taken (place_at left right most (length most - n.undecided)) false).most
   no_constant z s e = to_z-of_z {w = w64} s ∙ e ∙ ap (λ x. neg_ℤ x -ℤ pos 1) constant_is
-
--- ---- one more fact
-
-module _ (near : Grid) (last from to : ℕ) (k : ℤ) (tight : Tight (suc last) near) (fact : Fact last from to k) where
-  -- the sum that tells whether it closes a negative cycle
-  sum_fits : SFits w64 (weight near to from +ℤ k)
-  sum_fits =
-      let b = (tight_within (suc last) near tight).entry to from fact.to_is fact.from_is in
-      omega (arith, machine, b.high, b.low, fact.high, fact.low, +law (weight near to from) k)
-
-  -- its parts, as the code has them
-  parts_are : (r : ℤ) → SFits w64 r → r ≡ weight near to from → to_z w64 (of_z w64 r) +ℤ to_z w64 (of_z w64 k) ≡ weight near to from +ℤ k
-  parts_are r s e = ap₂ ◌+ℤ◌ (to_z-of_z {w = w64} s ∙ e) (to_z-of_z {w = w64} (fact_fits last from to k fact))
-
-  code_fits : (r : ℤ) → SFits w64 r → r ≡ weight near to from → SFits w64 (to_z w64 (of_z w64 r) +ℤ to_z w64 (of_z w64 k))
-  code_fits r s e = subst (SFits w64) (sym (parts_are r s e)) sum_fits
-
-  sum_is : (r : ℤ) → SFits w64 r → r ≡ weight near to from → to_z w64 (of_z w64 (to_z w64 (of_z w64 r) +ℤ to_z w64 (of_z w64 k))) ≡ weight near to from +ℤ k
-  sum_is r s e = to_z-of_z {w = w64} (code_fits r s e) ∙ parts_are r s e
 
 -- ---- a branch
 
@@ -106,18 +84,18 @@ side-returns-then-over t c = let a = c.args in
 pub side-overflow_add-round : goal.side-overflow_add-round
 side-overflow_add-round t c = let a = c.args in
     let e = a.h.fact in
-    code_fits a.near.now a.h.node.last e.from e.to e.weight c.requires.3.tight c.requires.2 c.edge-round.result (record { sfits = c.edge-round.type_inv }) c.edge-round.ensures
+    code_fits a.h.node.last a.near.now c.requires.3.tight e.from e.to e.weight c.requires.2 c.edge-round.result (record { sfits = c.edge-round.type_inv }) c.edge-round.ensures
 
 pub side-returns-then-round-e-lt0 : goal.side-returns-then-round-e-lt0
 side-returns-then-round-e-lt0 t c = let a = c.args in
     let e = a.h.fact in
-    let s = sum_is a.near.now a.h.node.last e.from e.to e.weight c.requires.3.tight c.requires.2 c.edge-round.result (record { sfits = c.edge-round.type_inv }) c.edge-round.ensures in
+    let s = code_sum a.h.node.last a.near.now c.requires.3.tight e.from e.to e.weight c.requires.2 c.edge-round.result (record { sfits = c.edge-round.type_inv }) c.edge-round.ensures in
     λ F lent. side_cut F a.kinds.now a.left.now a.right.now a.most.now lent a.g.now a.near.now a.h _ s _ c.known_so_far-k.ensures a.room.now _ a.h.node.spot _ c.if-round-e-lt0.true c.cut.ensures
 
 pub side-returns-then-n-eq0 : goal.side-returns-then-n-eq0
 side-returns-then-n-eq0 t c = let a = c.args in
     let e = a.h.fact in
-    let s = sum_is a.near.now a.h.node.last e.from e.to e.weight c.requires.3.tight c.requires.2 c.edge-round.result (record { sfits = c.edge-round.type_inv }) c.edge-round.ensures in
+    let s = code_sum a.h.node.last a.near.now c.requires.3.tight e.from e.to e.weight c.requires.2 c.edge-round.result (record { sfits = c.edge-round.type_inv }) c.edge-round.ensures in
     λ F lent. side_end F a.kinds.now a.left.now a.right.now a.most.now lent a.g.now a.near.now a.h _ s c.if-round-e-lt0.false (sym c.known_so_far-k.ensures ∙ ap three_of c.in-Open.is) (omega (arith, c.if-n-eq0.true)) a.room.now _ a.h.node.spot _
 
 pub side-relax_in-requires-clause-all_within : goal.side-relax_in-requires-clause-all_within
@@ -128,7 +106,7 @@ side-branch-room-requires t c = let a = c.args in
     let e = a.h.fact in
     let q = c.requires in
     let w = to_z-of_z {w = w64} (fact_fits a.h.node.last e.from e.to e.weight q.2) in
-    let s = sum_is a.near.now a.h.node.last e.from e.to e.weight q.3.tight q.2 c.edge-round.result (record { sfits = c.edge-round.type_inv }) c.edge-round.ensures in
+    let s = code_sum a.h.node.last a.near.now q.3.tight e.from e.to e.weight q.2 c.edge-round.result (record { sfits = c.edge-round.type_inv }) c.edge-round.ensures in
     let facts = c.enter.ensures ∙ ap (tighten a.g.now e.from e.to) w in
     let closer = c.relax_in.ensures ∙ ap₂ (λ z m. tabled (relax (weight a.near.now) e.from e.to z) m a.near.now) w (add-one a.h.node.last) in
     (omega (arith, c.decreases), (q.0, q.1, omega (arith, c.if-n-eq0.false), ready_handed a.h.node.last a.left.now a.right.now a.most.now a.g.now a.near.now q.3 e.from e.to e.weight q.2 _ _ _ s facts closer c.if-round-e-lt0.false))
@@ -140,7 +118,7 @@ side-returns-in-Fails t c = let a = c.args in
 pub side-returns-in-Passes : goal.side-returns-in-Passes
 side-returns-in-Passes t c = let a = c.args in
     let e = a.h.fact in
-    let s = sum_is a.near.now a.h.node.last e.from e.to e.weight c.requires.3.tight c.requires.2 c.edge-round.result (record { sfits = c.edge-round.type_inv }) c.edge-round.ensures in
+    let s = code_sum a.h.node.last a.near.now c.requires.3.tight e.from e.to e.weight c.requires.2 c.edge-round.result (record { sfits = c.edge-round.type_inv }) c.edge-round.ensures in
     λ F lent. side_true F a.kinds.now a.left.now a.right.now a.most.now lent a.g.now a.near.now a.h _ s c.if-round-e-lt0.false (sym c.known_so_far-k.ensures ∙ ap three_of c.in-Passes.is) a.room.now _ a.h.node.spot _
 
 pub side-returns-else-n-eq0 : goal.side-returns-else-n-eq0
@@ -148,7 +126,7 @@ side-returns-else-n-eq0 t c = let a = c.args in
     let e = a.h.fact in
     let q = c.requires in
     let w = to_z-of_z {w = w64} (fact_fits a.h.node.last e.from e.to e.weight q.2) in
-    let s = sum_is a.near.now a.h.node.last e.from e.to e.weight q.3.tight q.2 c.edge-round.result (record { sfits = c.edge-round.type_inv }) c.edge-round.ensures in
+    let s = code_sum a.h.node.last a.near.now q.3.tight e.from e.to e.weight q.2 c.edge-round.result (record { sfits = c.edge-round.type_inv }) c.edge-round.ensures in
     let facts = c.enter.ensures ∙ ap (tighten a.g.now e.from e.to) w in
     let closer = c.relax_in.ensures ∙ ap₂ (λ z m. tabled (relax (weight a.near.now) e.from e.to z) m a.near.now) w (add-one a.h.node.last) in
     λ F lent. side_calm F a.kinds.now a.left.now a.right.now a.most.now lent a.g.now a.near.now a.h _ _ _ s facts closer a.room.now _ a.h.node.spot c.branch-room.result c.if-round-e-lt0.false q.3 (c.branch-room.ensures F lent (sym c.known_so_far-k.ensures ∙ ap three_of c.in-Open.is))
