@@ -1,5 +1,6 @@
 use mathlib.Core.Path.{ap, ◌∙◌}
 use borrow.Author.Tests.{ne_eqb}
+use borrow.Author.Rules.{rules}
 use Rattle.page_questions.specs.Reader.{and_then}
 use Rattle.changes.specs.Changes.{choice_at, chosen_by}
 use Rattle.changes.proofs.ModeLaws.{operands_then}
@@ -17,6 +18,5 @@ returns-in-1 c = rw c.in-1.is
 
 pub returns-in_default : goal.returns-in_default
 unfolding choice_at
-returns-in_default c = let r = c.in_default.in_default-own.rest in
-    rw (ne_eqb _ _ r.0.1, ne_eqb _ _ r.1)
+returns-in_default c = rw (ne_eqb c.args.m 0 (search rules), ne_eqb c.args.m 1 (search rules))
     (c.chosen-in_default.ensures ∙ ap (λ o. and_then o (chosen_by 2)) c.operand_at-in_default.ensures ∙ operands_then _ _ _ _ _ _ _ _ (chosen_by 2))

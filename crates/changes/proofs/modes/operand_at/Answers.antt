@@ -4,13 +4,16 @@ use Rattle.fields.specs.Bytes.{byte_of, number_of}
 use Rattle.changes.specs.Changes.{operands_at}
 use Rattle.page_questions.proofs.Steps.{on_good, on_bad}
 use mir.Syntax.{w32}
+use mir.Val.{SFits}
+use borrow.Author.Rules.{rules}
 use Rattle.changes.proofs.modes.operand_at.Goals as goal
 
 pub returns-in-Good-v : goal.returns-in-Good-v
 unfolding operands_at
-returns-in-Good-v c = on_good _ (sym (ap byte_of c.in-Good.is) ∙ c.byte_at-b.ensures)
+returns-in-Good-v c = let fits : SFits w32 c.in-Good-v.k = search rules in
+    on_good _ (sym (ap byte_of c.in-Good.is) ∙ c.byte_at-b.ensures)
     (on_good _ (sym (ap number_of c.in-Good-v.is) ∙ (simp (to_z-of_z, c.ranges.lo, c.ranges.hi) at c.number_at-v.ensures))
-    (rw (to_z-of_z {w = w32} (record { sfits = c.in-Good-v.known_told-in-Good-v-1-own.given.0.1 }))))
+    (rw (to_z-of_z {w = w32} fits)))
 
 pub returns-in-Refused-v : goal.returns-in-Refused-v
 unfolding operands_at

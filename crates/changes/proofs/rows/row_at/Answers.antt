@@ -1,9 +1,10 @@
 use Rattle.page_meaning.specs.Limits.{most_columns}
 use Rattle.page_questions.specs.Reader.{row_at, value_at}
-use lib.ListN.{take}
+use Prim.Native.Nat.{◌+◌}
+use lib.ListN.{take, get_or}
 use mir.Facts.{to_z-of_z}
 use mathlib.Core.List.{map-id, map}
-use Rattle.question.proofs.RowRun.{ranges_length, this_value}
+use Rattle.question.proofs.RowRun.{no_column, ranges_length, this_value}
 use mathlib.Core.Path.{◌≡◌, sym, ap, ◌∙◌, refl}
 use native.Mathlib.Omega.{arith}
 use lib.IntN.{ℤ}
@@ -11,6 +12,8 @@ use Rattle.fields.specs.Bytes.{number_of}
 use Rattle.question.specs.Parts.{ranges_at}
 use Rattle.page_questions.proofs.Loops.{going_start, going_on, going_bad, going_end}
 use mir.Syntax.{w32}
+use mir.Val.{SFits}
+use borrow.Author.Rules.{rules}
 use Rattle.changes.proofs.rows.row_at.Goals as goal
 use Rattle.changes.proofs.rows.row_at.Goals.{After-number_at-v}
 
@@ -21,8 +24,11 @@ field : (c : After-number_at-v)
 field c =
     let a = c.args in
     let inside = c.loop-i-test.true in
+    let column = get_or a.columns (a.first + c.loop-i.i) no_column in
+    let low : SFits w32 column.lo = search rules in
+    let high : SFits w32 column.hi = search rules in
     c.number_at-v.ensures
-    ∙ rw (to_z-of_z {w = w32} (record { sfits = c.struct_told-in-loop-i-1.given.0.1 }), to_z-of_z {w = w32} (record { sfits = c.struct_told-in-loop-i-1.given.1.0.1 }))
+    ∙ rw (to_z-of_z {w = w32} low, to_z-of_z {w = w32} high)
     (this_value a.s.now a.columns a.first a.width c.loop-i.i c.loop-i.next c.loop-i.values inside
     (omega (arith, c.loop-i.invariant.sized, c.requires.width_bound, inside)))
 
@@ -30,7 +36,8 @@ pub loop-i-init : goal.loop-i-init
 loop-i-init c = going_start _ _ most_columns _ _ _ refl
 
 pub loop-i-preserved : goal.loop-i-preserved
-loop-i-preserved c = rw (to_z-of_z {w = w32} (record { sfits = c.in-Good.known_told-1-own.given.0.1 }))
+loop-i-preserved c = let fits : SFits w32 c.in-Good.value = search rules in
+    rw (to_z-of_z {w = w32} fits)
     (going_on _ _ _ _ _ _ _ _ c.loop-i.invariant c.loop-i-test.true _ _ (omega (arith, c.requires.width_bound))
     (sym (ap number_of c.in-Good.is) ∙ field (goal.at.loop-i-preserved c).After-number_at-v))
 

@@ -8,18 +8,6 @@ pub returns-then-s-lt5 : goal.returns-then-s-lt5
 unfolding from_version
 returns-then-s-lt5 c = rw (lt-leb _ _ c.if-s-lt5.true) c.refusal.ensures
 
-pub overflow_cast-version : goal.overflow_cast-version
-overflow_cast-version c = omega (arith, c.shared_slice_known-2-1.given 3)
-
-pub overflow_cast-version-2 : goal.overflow_cast-version-2
-overflow_cast-version-2 c = omega (arith, c.shared_slice_known-3-1.given 4)
-
-pub overflow_mul-version : goal.overflow_mul-version
-overflow_mul-version c = omega (arith, c.shared_slice_known-3-1.given 4)
-
-pub overflow_add-version : goal.overflow_add-version
-overflow_add-version c = omega (arith, c.shared_slice_known-2-1.given 3, c.shared_slice_known-3-1.given 4)
-
 pub returns-then-version-lt1 : goal.returns-then-version-lt1
 unfolding from_version
 returns-then-version-lt1 c = let n = version_in c.args.s.now in

@@ -1,6 +1,5 @@
 use native.Mathlib.Omega.{arith}
 use mathlib.Core.Path.{sym}
-use mathlib.Core.Bool.{false}
 use borrow.Author.Count.{below_more}
 use Rattle.tables.proofs.VisibleColumns.{some_visible_lem, none_visible}
 use borrow.Author.Rules.{rules}

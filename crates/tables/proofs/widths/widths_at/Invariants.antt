@@ -1,4 +1,3 @@
-use Rattle.page_questions.specs.Layout.{total}
 use Prim.Native.Nat.{◌-◌}
 use Rattle.tables.proofs.Totals.{WidthRun}
 use Rattle.tables.proofs.widths.widths_at.Given as goal

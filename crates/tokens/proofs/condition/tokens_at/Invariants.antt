@@ -1,4 +1,3 @@
-use Rattle.page_questions.specs.Reader.{height}
 use Prim.Native.Nat.{◌-◌}
 use Rattle.tokens.proofs.TokenRun.{TokenRun}
 use Rattle.tokens.proofs.condition.tokens_at.Given as goal

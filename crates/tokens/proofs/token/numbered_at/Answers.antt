@@ -1,3 +1,4 @@
+use borrow.Author.Rules.{rules}
 use borrow.Author.Tests.{lt-ltb, le-ltb, ne_eqb}
 use Rattle.tokens.specs.Tokens.{token_numbered}
 use Rattle.tokens.proofs.token.numbered_at.Goals as goal
@@ -20,5 +21,5 @@ returns-in-3 c = simp c.in-3.is c.operation-in-3.ensures
 
 pub returns-in_default : goal.returns-in_default
 unfolding token_numbered
-returns-in_default c = let r = c.in_default.in_default-own.rest in
-    simp (ne_eqb _ _ r.0.0.1, ne_eqb _ _ r.0.1, ne_eqb _ _ r.1) c.operation-in_default.ensures
+returns-in_default c = let t = c.args.t in
+    simp (ne_eqb t 1 (search rules), ne_eqb t 2 (search rules), ne_eqb t 3 (search rules)) c.operation-in_default.ensures

@@ -1,3 +1,4 @@
+use borrow.Author.Rules.{rules}
 use borrow.Author.Tests.{ne_eqb}
 use Rattle.tokens.proofs.token.op_of.Goals as goal
 
@@ -17,5 +18,5 @@ pub returns-in-5 : goal.returns-in-5
 returns-in-5 c = simp c.in-5.is
 
 pub returns-in_default : goal.returns-in_default
-returns-in_default c = let r = c.in_default.in_default-own.rest in
-    simp (ne_eqb _ _ r.0.0.0.0.1, ne_eqb _ _ r.0.0.0.1, ne_eqb _ _ r.0.0.1, ne_eqb _ _ r.0.1, ne_eqb _ _ r.1)
+returns-in_default c = let o = c.args.o in
+    simp (ne_eqb o 1 (search rules), ne_eqb o 2 (search rules), ne_eqb o 3 (search rules), ne_eqb o 4 (search rules), ne_eqb o 5 (search rules))
