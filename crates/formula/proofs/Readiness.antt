@@ -3,7 +3,6 @@ use mathlib.Core.Path.{◌≡◌, subst}
 use Prim.Native.Nat.{ℕ, ◌<◌}
 use lib.ListN.{length}
 use Rattle.page_meaning.specs.Limits.{most_columns, most_tokens, most_rows}
-use Rattle.page_meaning.specs.Contents.{columns}
 use Rattle.page_meaning.specs.WellFormed.{Uses, Reads}
 use Rattle.question.specs.Held.{condition_of, change_by, question_of, Held}
 use Rattle.page_questions.specs.Guarantees.{Accepted, ConditionOk, ChangeAccepted}

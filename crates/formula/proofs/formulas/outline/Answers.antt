@@ -1,7 +1,6 @@
 use native.Mathlib.Omega.{arith}
-use mathlib.Core.Path.{refl, sym, ◌∙◌, subst}
+use mathlib.Core.Path.{refl, sym, subst}
 use lib.Dec.{eqb}
-use lib.ListN.{length-map}
 use Rattle.question.specs.Held.{version_of, question_of}
 use Rattle.page_formulas.specs.Costs.{Fits}
 use Rattle.page_formulas.specs.Formulas as F
@@ -21,7 +20,6 @@ whole c = record { held = c.requires.1; long = omega arith }
 built : (c : Start) → Buildable c.args.q.change.verb c.args.q
 built c =
     let q = c.args.q in
-    
     buildable q c.requires.1
     (whole c).long
     (omega arith)

@@ -14,16 +14,16 @@ part_of-next-requires c = let a = c.args in
 
 pub loop-i-init : goal.loop-i-init
 loop-i-init c = let a = c.args in (
-      omega arith,
-      c.requires.2.some,
-      record {
-        begin = program_of a.kinds.now a.left.now a.right.now a.most.now begun;
-        long = c.requires.0;
-        count = refl;
-        places = refl;
-        wrote = λ Q u. part_first a.l c.requires.2 c.requires.3 (program_of a.kinds.now a.left.now a.right.now a.most.now begun) c.requires.0 refl refl Q a.d _ (c.part_of-next.ensures Q u);
-      },
-    )
+  omega arith,
+  c.requires.2.some,
+  record {
+    begin = program_of a.kinds.now a.left.now a.right.now a.most.now begun;
+    long = c.requires.0;
+    count = refl;
+    places = refl;
+    wrote = λ Q u. part_first a.l c.requires.2 c.requires.3 (program_of a.kinds.now a.left.now a.right.now a.most.now begun) c.requires.0 refl refl Q a.d _ (c.part_of-next.ensures Q u);
+  },
+)
 
 pub bounds-l-i : goal.bounds-l-i
 bounds-l-i c = omega (arith, c.requires.2.long, c.requires.2.few, c.loop-i-test.true)
