@@ -4,7 +4,6 @@ use mathlib.Core.Path.{◌≡◌, sym, ap, ap₂, subst, ◌∙◌}
 use mathlib.Core.Bool.{Bool, true, false}
 use mathlib.Core.List.{List}
 use native.Mathlib.Omega.{arith}
-use lib.Dec.{eqb}
 use lib.IntN.{ℤ, pos}
 use lib.ListN.{length, get_or, set, drop}
 use mir.Syntax.{w64}
@@ -55,38 +54,31 @@ module _ (kinds left right : List ℕ) (most : List ℤ) (shown : List Bool) (le
       go true = (right_end, left_end)
       go false = (left_end, right_end)
 
-  module _ (facts : Grid) (facts_given : facts ≡ tighten g stage.fact.from stage.fact.to (to_z w64 (of_z w64 stage.fact.weight))) (at v : ℕ) (added : Added) (added_given : added ≡ fact_of (record { left = get_or left here 0; right = get_or right here 0; most = to_z w64 (of_z w64 (get_or most here (pos 0))) }) (eqb v 1)) (next : Stage) (next_given : next ≡ record { at = at; truths = set stage.truths here v; todo = stage.todo - 1; fact = added }) where
+  module _ (facts : Grid) (facts_given : facts ≡ tighten g stage.fact.from stage.fact.to (to_z w64 (of_z w64 stage.fact.weight))) (d : Bool) (added : Added) (added_given : added ≡ fact_of (record { left = get_or left here 0; right = get_or right here 0; most = to_z w64 (of_z w64 (get_or most here (pos 0))) }) d) (next : Stage) where
     -- the grid with the last fact
     facts_are : facts ≡ with_fact g stage.fact
     facts_are = facts_given ∙ ap (tighten g stage.fact.from stage.fact.to) (to_z-of_z {w = w64} fits)
 
-    fact_is : added ≡ fact_of place (eqb v 1)
-    fact_is = added_given ∙ ap (λ (k : ℤ). fact_of (record { left = get_or left here 0; right = get_or right here 0; most = k }) (eqb v 1)) (to_z-of_z {w = w64} most_fits)
+    added_is : added ≡ fact_of place d
+    added_is = added_given ∙ ap (λ (k : ℤ). fact_of (record { left = get_or left here 0; right = get_or right here 0; most = k }) d) (to_z-of_z {w = w64} most_fits)
 
-    -- the stage of the half
-    stage_is : next ≡ record { at = at; truths = set stage.truths here v; todo = stage.todo - 1; fact = fact_of place (eqb v 1) }
-    stage_is = next_given ∙ ap (λ (e : Added). record { at = at; truths = set stage.truths here v; todo = stage.todo - 1; fact = e }) fact_is
+    pub half_less : next.todo ≡ stage.todo - 1 → next.todo + next.todo + 1 < stage.todo + stage.todo
+    half_less e = omega (arith, e, some)
 
-    left_over : next.todo ≡ stage.todo - 1
-    left_over = ap (λ (x : Stage). x.todo) stage_is
-
-    its_fact : next.fact ≡ fact_of place (eqb v 1)
-    its_fact = ap (λ (x : Stage). x.fact) stage_is
-
-    pub half_less : next.todo + next.todo + 1 < stage.todo + stage.todo
-    half_less = omega (arith, left_over, some)
-
-    pub half_ready : (next.todo ≤ length left) × Checkable facts next.fact
-    half_ready = (
-      omega (arith, left_over, few),
-      record {
-        sized = subst (Sized most_vertices) (sym facts_are) (tighten_sized most_vertices g _ _ _ ready.sized);
-        small = subst (AllWithin far_n most_vertices) (sym (ap₂ with_fact facts_are its_fact)) (decide_within most_vertices (with_fact g stage.fact) place (eqb v 1) ready.small (lendable.places.small here (omega (arith, lendable.places.mosts, inside))));
-        from_is = subst (λ (e : Added). e.from < most_vertices) (sym its_fact) (ends (eqb v 1)).0;
-        to_is = subst (λ (e : Added). e.to < most_vertices) (sym its_fact) (ends (eqb v 1)).1;
-      },
-    )
+    pub half_ready : next.todo ≡ stage.todo - 1 → next.fact ≡ added → (next.todo ≤ length left) × Checkable facts next.fact
+    half_ready e f =
+        let its_fact : next.fact ≡ fact_of place d = f ∙ added_is in (
+          omega (arith, e, few),
+          record {
+            sized = subst (Sized most_vertices) (sym facts_are) (tighten_sized most_vertices g _ _ _ ready.sized);
+            small = subst (AllWithin far_n most_vertices) (sym (ap₂ with_fact facts_are its_fact)) (decide_within most_vertices (with_fact g stage.fact) place d ready.small (lendable.places.small here (omega (arith, lendable.places.mosts, inside))));
+            from_is = subst (λ (e : Added). e.from < most_vertices) (sym its_fact) (ends d).0;
+            to_is = subst (λ (e : Added). e.to < most_vertices) (sym its_fact) (ends d).1;
+          },
+        )
 
     -- what a half's tree came to
-    pub half_says : (part : List ℕ) (F : Formula) (base : ℕ) (r : Checked) → r ≡ check_left F next.todo next.truths (with_fact facts next.fact) (base + next.at) (drop next.at part) → r ≡ check_left F (stage.todo - 1) (set stage.truths here v) (decide (with_fact g stage.fact) place (eqb v 1)) (base + at) (drop at part)
-    half_says part F base r e = e ∙ ap₂ (λ (x : Stage) (h : Grid). check_left F x.todo x.truths (with_fact h x.fact) (base + x.at) (drop x.at part)) stage_is facts_are
+    pub half_says : (at v : ℕ) → next ≡ record { at = at; truths = set stage.truths here v; todo = stage.todo - 1; fact = added } → (part : List ℕ) (F : Formula) (base : ℕ) (r : Checked) → r ≡ check_left F next.todo next.truths (with_fact facts next.fact) (base + next.at) (drop next.at part) → r ≡ check_left F (stage.todo - 1) (set stage.truths here v) (decide (with_fact g stage.fact) place d) (base + at) (drop at part)
+    half_says at v e part F base r h =
+        let n : next ≡ record { at = at; truths = set stage.truths here v; todo = stage.todo - 1; fact = fact_of place d } = e ∙ ap (λ (x : Added). record { at = at; truths = set stage.truths here v; todo = stage.todo - 1; fact = x }) added_is in
+        h ∙ ap₂ (λ (x : Stage) (h : Grid). check_left F x.todo x.truths (with_fact h x.fact) (base + x.at) (drop x.at part)) n facts_are

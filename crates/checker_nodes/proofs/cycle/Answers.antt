@@ -18,9 +18,6 @@ use Rattle.checker_nodes.proofs.cycle.Goals.{In-Good}
 pub returns-then-part-from : goal.returns-then-part-from
 returns-then-part-from c = λ F base sh. let a = c.args in cycle_end_lem most_vertices F (with_fact a.g.now a.e) a.part.now a.at base c.if-part-from.true
 
-pub overflow_cast-count : goal.overflow_cast-count
-overflow_cast-count c = omega (arith, c.shared_slice_known-3-1.given (c.args.at + 1))
-
 pub returns-then-count-eq0 : goal.returns-then-count-eq0
 returns-then-count-eq0 c = λ F base sh. let a = c.args in cycle_none most_vertices F (with_fact a.g.now a.e) a.part.now a.at base c.if-part-from.false c.if-count-eq0.true
 

@@ -16,9 +16,6 @@ returns-then-bytes-i c = let l = c.loop-i in
     let a = c.args in
     record { meaning = λ rs at h. named_short rs at a.bytes.now l.i a.count c.loop-i-test.true c.if-bytes-i.true l.invariant.0 (l.invariant.2 rs h); inside = search rules }
 
-pub overflow_cast-v : goal.overflow_cast-v
-overflow_cast-v c = omega (arith, c.shared_slice_known-1.given c.loop-i.i)
-
 pub returns-then-shown-v : goal.returns-then-shown-v
 returns-then-shown-v c = let l = c.loop-i in
     let a = c.args in

@@ -1,10 +1,11 @@
-use Prim.Native.Nat.{◌-◌, ◌<◌}
+use Prim.Native.Nat.{ℕ, ◌-◌, ◌<◌}
+use mathlib.Core.List.{List}
 use mathlib.Core.Path.{◌≡◌, refl, sym, ap, subst, ◌∙◌}
 use native.Mathlib.Omega.{arith}
-use lib.ListN.{length, drop, length-drop}
+use lib.ListN.{length, take, drop, length-drop}
 use Rattle.page_meaning.specs.Limits.{most_vertices}
 use Rattle.question.specs.Held.{question_of}
-use Rattle.page_formulas.specs.Formulas.{formulas}
+use Rattle.page_formulas.specs.Formulas.{Formula, formulas}
 use Rattle.formula.specs.Formulas.{formula_at}
 use Rattle.checker_nodes.specs.declared.Past.{Past}
 use Rattle.checker_nodes.specs.Nodes.{outcome_of}
@@ -12,10 +13,10 @@ use Rattle.page_sheets.specs.Tree.{check_tree}
 use Rattle.page_sheets.specs.Sheet.{check_yes}
 use Rattle.page_sheets.proofs.Cycles.{to_the_end}
 use Rattle.formula.proofs.ProperFormulas.{fine_at}
-use Rattle.checker_yes.proofs.TreeRun.{left, Inside, past_inside, tree_good, tree_bad, trees_left, trees_done}
+use Rattle.checker_yes.proofs.TreeRun.{Inside, past_inside, tree_good, tree_bad, trees_left, trees_done}
 use borrow.Author.Rules.{rules}
 use Rattle.checker_yes.proofs.yes_sheet.Goals as goal
-use Rattle.checker_yes.proofs.yes_sheet.Goals.{After-formula_tree-past, In-loop-i}
+use Rattle.checker_yes.proofs.yes_sheet.Goals.{In-loop-i}
 
 pub loop-i-init : goal.loop-i-init
 unfolding check_yes
@@ -43,46 +44,42 @@ slice_bounds-formula_tree-end-in-loop-i-3 c = sym c.outline-o.ensures.1.most
 pub formula_tree-past-requires : goal.formula_tree-past-requires
 formula_tree-past-requires c = fine_at (question_of c.args.q) c.requires.1 c.args.asked c.loop-i.i (numbered (goal.at.formula_tree-past-requires c).In-loop-i) _ c.outline-o.ensures.0
 
--- the turn of the loop in which a tree is checked
-abbrev turn : After-formula_tree-past → In-loop-i
-turn c = c
-
--- what the tree comes to
-told : (c : After-formula_tree-past) → let a = (turn c).before.before.before.before.args in let l = (turn c).before.loop in let s = a.sheet.now in outcome_of l.at (drop l.at s) c.formula_tree-past.result ≡ check_tree most_vertices (formula_at (formulas (question_of a.q) a.asked) l.i) l.at (drop l.at s)
-told c =
-    let a = (turn c).before.before.before.before.args in
-    let l = (turn c).before.loop in
-    let F = formula_at (formulas (question_of a.q) a.asked) l.i in
-    subst (λ part. outcome_of l.at part c.formula_tree-past.result ≡ check_tree most_vertices F l.at part) (to_the_end a.sheet.now l.at) (c.formula_tree-past.ensures F l.at c.outline-o.ensures.0)
+-- what the tree comes to, from what the code's slice says of it
+told : (F : Formula) (s : List ℕ) (at : ℕ) (r r₁ : Past) → r ≡ r₁ → outcome_of at (take (length s - at) (drop at s)) r ≡ check_tree most_vertices F at (take (length s - at) (drop at s)) → outcome_of at (drop at s) r₁ ≡ check_tree most_vertices F at (drop at s)
+told F s at r r₁ e h = ap (outcome_of at (drop at s)) (sym e) ∙ subst (λ part. outcome_of at part r ≡ check_tree most_vertices F at part) (to_the_end s at) h
 
 -- it ends, or is refused, within the sheet
-within : (c : After-formula_tree-past) (r : Past) → c.formula_tree-past.result ≡ r → Inside (length (turn c).before.before.before.before.args.sheet.now - (turn c).before.loop.at) r
-within c r e =
-    let a = (turn c).before.before.before.before.args in
-    let l = (turn c).before.loop in
-    subst (λ x. Inside x r) (length-drop l.at a.sheet.now) (past_inside _ l.at (drop l.at a.sheet.now) r (ap (outcome_of l.at (drop l.at a.sheet.now)) (sym e) ∙ told c))
+within : (F : Formula) (s : List ℕ) (at : ℕ) (r r₁ : Past) → r ≡ r₁ → outcome_of at (take (length s - at) (drop at s)) r ≡ check_tree most_vertices F at (take (length s - at) (drop at s)) → Inside (length s - at) r₁
+within F s at r r₁ e h = subst (λ x. Inside x r₁) (length-drop at s) (past_inside F at (drop at s) r₁ (told F s at r r₁ e h))
 
 pub overflow_add-at : goal.overflow_add-at
-overflow_add-at c = omega (arith, within (goal.at.overflow_add-at c).After-formula_tree-past _ c.in-Good.is, (turn (goal.at.overflow_add-at c).After-formula_tree-past).before.loop.invariant.1, (turn (goal.at.overflow_add-at c).After-formula_tree-past).before.before.before.before.well_formed.1.1.0)
+overflow_add-at c = let F = formula_at (formulas (question_of c.args.q) c.args.asked) c.loop-i.i in
+    omega (arith, within F c.args.sheet.now c.loop-i.at _ _ c.in-Good.is (c.formula_tree-past.ensures F c.loop-i.at c.outline-o.ensures.0), c.loop-i.invariant.1)
 
 pub loop-i-preserved : goal.loop-i-preserved
-loop-i-preserved c = let a = (turn (goal.at.loop-i-preserved c).After-formula_tree-past).before.before.before.before.args in
-    let l = (turn (goal.at.loop-i-preserved c).After-formula_tree-past).before.loop in
+loop-i-preserved c = let a = c.args in
+    let l = c.loop-i in
     let s = a.sheet.now in
-    let Fs = formulas (question_of a.q) a.asked in (
-      omega (arith, (turn (goal.at.loop-i-preserved c).After-formula_tree-past).loop-test.true),
-      omega (arith, within (goal.at.loop-i-preserved c).After-formula_tree-past _ c.in-Good.is, l.inv.1),
-      sym (tree_good Fs s l.i l.at _ (numbered (turn (goal.at.loop-i-preserved c).After-formula_tree-past)) (ap (outcome_of l.at (drop l.at s)) (sym c.in-Good.is) ∙ told (goal.at.loop-i-preserved c).After-formula_tree-past)) ∙ l.inv.2,
+    let Fs = formulas (question_of a.q) a.asked in
+    let F = formula_at Fs l.i in
+    let h = c.formula_tree-past.ensures F l.at c.outline-o.ensures.0 in (
+      omega (arith, c.loop-i-test.true),
+      omega (arith, within F s l.at _ _ c.in-Good.is h, l.invariant.1),
+      sym (tree_good Fs s l.i l.at _ (numbered (goal.at.loop-i-preserved c).In-loop-i) (told F s l.at _ _ c.in-Good.is h)) ∙ l.invariant.2,
     )
 
 pub overflow_add-result : goal.overflow_add-result
-overflow_add-result c = omega (arith, within (goal.at.overflow_add-result c).After-formula_tree-past _ c.in-Refused.is, (turn (goal.at.overflow_add-result c).After-formula_tree-past).before.loop.invariant.1, (turn (goal.at.overflow_add-result c).After-formula_tree-past).before.before.before.before.well_formed.1.1.0)
+overflow_add-result c = let F = formula_at (formulas (question_of c.args.q) c.args.asked) c.loop-i.i in
+    omega (arith, within F c.args.sheet.now c.loop-i.at _ _ c.in-Refused.is (c.formula_tree-past.ensures F c.loop-i.at c.outline-o.ensures.0), c.loop-i.invariant.1)
 
 pub returns-in-Refused : goal.returns-in-Refused
-returns-in-Refused c = let a = (turn (goal.at.returns-in-Refused c).After-formula_tree-past).before.before.before.before.args in
-    let l = (turn (goal.at.returns-in-Refused c).After-formula_tree-past).before.loop in
+returns-in-Refused c = let a = c.args in
+    let l = c.loop-i in
     let s = a.sheet.now in
-    sym (tree_bad (formulas (question_of a.q) a.asked) s l.i l.at (numbered (turn (goal.at.returns-in-Refused c).After-formula_tree-past)) _ _ (ap (outcome_of l.at (drop l.at s)) (sym c.in-Refused.is) ∙ told (goal.at.returns-in-Refused c).After-formula_tree-past)) ∙ l.inv.2
+    let Fs = formulas (question_of a.q) a.asked in
+    let F = formula_at Fs l.i in
+    let h = c.formula_tree-past.ensures F l.at c.outline-o.ensures.0 in
+    sym (tree_bad Fs s l.i l.at (numbered (goal.at.returns-in-Refused c).In-loop-i) _ _ (told F s l.at _ _ c.in-Refused.is h)) ∙ l.invariant.2
 
 pub returns-then-at-sheet : goal.returns-then-at-sheet
 returns-then-at-sheet c = let l = c.loop-i in
