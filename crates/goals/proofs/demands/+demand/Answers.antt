@@ -1,10 +1,9 @@
-use Rattle.std.proofs.Common.{◌+◌, ◌≤◌, ◌<◌, ◌≡◌, ◌∷◌, ◌∙◌, sym, ap, subst, arith, ℕ, suc, Bool, true, false, List}
-use lib.IntN.{ℤ}
+use Rattle.std.proofs.Common.{◌≡◌, ◌∷◌, ◌∙◌, sym, ap, subst, arith, ℕ, suc, Bool, true, false, List}
 use lib.ListN.{length-set}
 use Rattle.page_walks.specs.Grid.{Grid}
 use Rattle.page_formulas.specs.Program.{Place}
 use Rattle.page_sheets.specs.Facts.{taken}
-use Rattle.program_tree.specs.Nodes.{Tree, tree_of, kind_at, size_at, first_at, Placed}
+use Rattle.program_tree.specs.Nodes.{Tree, tree_of, size_at, first_at, Placed}
 use Rattle.goals.specs.Closures.{Enters}
 use Rattle.goals.specs.Goals.{goal_of, stack_of, splitting, Leads, Takes}
 use Rattle.goals.specs.Goals as goals

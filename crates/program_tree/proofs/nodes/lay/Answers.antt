@@ -74,13 +74,13 @@ loop-i-smaller-then-kind-eq0 c = omega (arith, c.loop-i-test.true)
 
 pub loop-i-preserved-then-kind-eq0 : goal.loop-i-preserved-then-kind-eq0
 loop-i-preserved-then-kind-eq0 c = let a = c.args in let l = c.loop-i in let ks = a.kinds.now in let z = to_z w64 (of_z w64 (get_or a.most.now l.next (pos 0))) in let k = c.if-kind-eq0.true in let e = c.row-r.ensures in (
-      omega (arith, c.loop-i-test.true),
-      ap (λ m. m + 1) l.invariant.1 ∙ sym (ap (λ m. counted m (places_in ks l.i)) k) ∙ places_next ks l.i,
-      length-set l.nodes l.i _ ∙ l.invariant.2,
-      length-set l.weights l.i z ∙ l.invariant.3,
-      filled_more ks a.left.now a.right.now a.most.now l.nodes l.weights l.i l.invariant.4 c.row-r.result (set l.weights l.i z) (omega (arith, short (goal.at.loop-i-preserved-then-kind-eq0 c).In-loop-i, l.invariant.2)) (first_leaf ks a.n c.requires.0.long c.requires.0.formed (column 1 l.nodes) l.i c.loop-i-test.true (state_of (goal.at.loop-i-preserved-then-kind-eq0 c).In-loop-i)) (ap (λ m. get_or m 0 0) e) (ap (λ m. get_or m 1 0) e ∙ c.size-s.ensures) (λ j h. get_or-set_other l.weights l.i j z (pos 0) (omega arith))
-          (λ d. ap (λ m. place_of (get_or m 2 0) (get_or m 3 0) (get_or (set l.weights l.i z) l.i (pos 0))) e ∙ ap (place_of (get_or a.left.now l.next 0) (get_or a.right.now l.next 0)) (get_or-set_same l.weights l.i z (pos 0) (omega (arith, short (goal.at.loop-i-preserved-then-kind-eq0 c).In-loop-i, l.invariant.3)) ∙ to_z-of_z {w = w64} (record { sfits = c.weights-1.given })) ∙ ap (place_at a.left.now a.right.now a.most.now) l.invariant.1),
-    )
+  omega (arith, c.loop-i-test.true),
+  ap (λ m. m + 1) l.invariant.1 ∙ sym (ap (λ m. counted m (places_in ks l.i)) k) ∙ places_next ks l.i,
+  length-set l.nodes l.i _ ∙ l.invariant.2,
+  length-set l.weights l.i z ∙ l.invariant.3,
+  filled_more ks a.left.now a.right.now a.most.now l.nodes l.weights l.i l.invariant.4 c.row-r.result (set l.weights l.i z) (omega (arith, short (goal.at.loop-i-preserved-then-kind-eq0 c).In-loop-i, l.invariant.2)) (first_leaf ks a.n c.requires.0.long c.requires.0.formed (column 1 l.nodes) l.i c.loop-i-test.true (state_of (goal.at.loop-i-preserved-then-kind-eq0 c).In-loop-i)) (ap (λ m. get_or m 0 0) e) (ap (λ m. get_or m 1 0) e ∙ c.size-s.ensures) (λ j h. get_or-set_other l.weights l.i j z (pos 0) (omega arith))
+      (λ d. ap (λ m. place_of (get_or m 2 0) (get_or m 3 0) (get_or (set l.weights l.i z) l.i (pos 0))) e ∙ ap (place_of (get_or a.left.now l.next 0) (get_or a.right.now l.next 0)) (get_or-set_same l.weights l.i z (pos 0) (omega (arith, short (goal.at.loop-i-preserved-then-kind-eq0 c).In-loop-i, l.invariant.3)) ∙ to_z-of_z {w = w64} (record { sfits = c.weights-1.given })) ∙ ap (place_at a.left.now a.right.now a.most.now) l.invariant.1),
+)
 
 pub offset_bounds-nodes-i-in-loop-i : goal.offset_bounds-nodes-i-in-loop-i
 offset_bounds-nodes-i-in-loop-i c = omega (arith, short (goal.at.offset_bounds-nodes-i-in-loop-i c).In-loop-i)
@@ -96,12 +96,12 @@ loop-i-smaller c = omega (arith, c.loop-i-test.true)
 
 pub loop-i-preserved : goal.loop-i-preserved
 loop-i-preserved c = let a = c.args in let l = c.loop-i in let ks = a.kinds.now in let k = c.if-kind-eq0.false in let e = c.row-r-in-loop-i.ensures in (
-      omega (arith, c.loop-i-test.true),
-      l.invariant.1 ∙ counted_other (get_or ks l.i 0) (places_in ks l.i) k ∙ places_next ks l.i,
-      length-set l.nodes l.i _ ∙ l.invariant.2,
-      l.invariant.3,
-      filled_more ks a.left.now a.right.now a.most.now l.nodes l.weights l.i l.invariant.4 c.row-r-in-loop-i.result l.weights (omega (arith, short (goal.at.loop-i-preserved c).In-loop-i, l.invariant.2)) (first_leaf ks a.n c.requires.0.long c.requires.0.formed (column 1 l.nodes) l.i c.loop-i-test.true (state_of (goal.at.loop-i-preserved c).In-loop-i)) (ap (λ m. get_or m 0 0) e) (ap (λ m. get_or m 1 0) e ∙ c.size-s.ensures) (λ j h. refl) (λ d. absurd (k d)),
-    )
+  omega (arith, c.loop-i-test.true),
+  l.invariant.1 ∙ counted_other (get_or ks l.i 0) (places_in ks l.i) k ∙ places_next ks l.i,
+  length-set l.nodes l.i _ ∙ l.invariant.2,
+  l.invariant.3,
+  filled_more ks a.left.now a.right.now a.most.now l.nodes l.weights l.i l.invariant.4 c.row-r-in-loop-i.result l.weights (omega (arith, short (goal.at.loop-i-preserved c).In-loop-i, l.invariant.2)) (first_leaf ks a.n c.requires.0.long c.requires.0.formed (column 1 l.nodes) l.i c.loop-i-test.true (state_of (goal.at.loop-i-preserved c).In-loop-i)) (ap (λ m. get_or m 0 0) e) (ap (λ m. get_or m 1 0) e ∙ c.size-s.ensures) (λ j h. refl) (λ d. absurd (k d)),
+)
 
 pub returns : goal.returns
 returns c = let l = c.loop-i in let a = c.args in

@@ -1,4 +1,4 @@
-use Rattle.std.proofs.Common.{◌+◌, ◌-◌, ◌≤◌, ◌<◌, ◌≡◌, ◌∷◌, sym, subst, arith, length, ℕ, Bool, true, false, not, List}
+use Rattle.std.proofs.Common.{◌-◌, ◌≡◌, ◌∷◌, sym, subst, arith, length, ℕ, false, not, List}
 use Rattle.page_walks.specs.Grid.{Grid}
 use Rattle.page_formulas.specs.Costs.{most_instructions}
 use Rattle.program_tree.specs.Nodes.{Tree, tree_of}

@@ -1,7 +1,6 @@
 use Prim.Native.Nat.{◌-◌, ◌≤◌}
 use Rattle.question.specs.Held.{question_of}
 use Rattle.page_questions.specs.Guarantees.{Accepted}
-use Rattle.page_formulas.specs.Formulas.{formulas}
 use Rattle.program.specs.Built.{program_of, Long}
 use Rattle.formula_claims.specs.Claims.{begun}
 use Rattle.verdicts.proofs.Findings.{Passed}
