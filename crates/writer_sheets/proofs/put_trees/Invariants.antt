@@ -8,7 +8,7 @@ use Rattle.writer_sheets.proofs.put_trees.Given as goal
 
 -- The trees of the formulas before the next stand in the room.
 abbrev pub invariant-loop-i : goal.invariant-loop-i
-invariant-loop-i l = (l.i ≤ l.initial.room) × (length l.room ≡ length l.q) × Sown (question_of l.asked) l.n l.q l.initial.next l.i l.room l.next
+invariant-loop-i l = (l.i ≤ l.n) × (length l.room ≡ length l.initial.room) × Sown (question_of l.q) l.asked l.initial.room l.initial.next l.i l.room l.next
 
 abbrev pub decreases-loop-i : goal.decreases-loop-i
-decreases-loop-i l = l.initial.room - l.i
+decreases-loop-i l = l.n - l.i

@@ -1,3 +1,4 @@
+use borrow.Author.Rules.{rules}
 use mathlib.Core.Path.{◌≡◌, sym, ap, ◌∙◌}
 use mir.Facts.{to_z-of_z}
 use mir.Syntax.{w32}
@@ -12,6 +13,6 @@ returns-in-Free c = to_z-of_z c.ranges.z ∙ ap (λ o. or_else o c.args.z) (sym 
 
 pub returns-in-At : goal.returns-in-At
 returns-in-At c = let k = c.in-At.k in
-    let fits : SFits w32 k = record { sfits = c.in-At.known_told-1-own.given.0.1 } in
+    let fits : SFits w32 k = search rules in
     let e : c.wide.result ≡ k = rw (to_z-of_z fits) at c.wide.ensures in
     to_z-of_z {w = w64} (record { sfits = c.wide.type_inv }) ∙ e ∙ ap (λ o. or_else o c.args.z) (sym (ap option_of c.in-At.is) ∙ c.fixed_at-f.ensures)

@@ -1,3 +1,7 @@
+use borrow.Author.Rules.{rules}
+use lib.IntN.{pos}
+use lib.ListN.{get_or}
+use mir.Val.{SFits}
 use mathlib.Core.Path.{ap, ◌∙◌}
 use native.Mathlib.Omega.{arith}
 use mir.Facts.{to_z-of_z}
@@ -13,11 +17,13 @@ bounds-values-v c = omega (arith, c.vertex_at-v.ensures, vertex_few c.args.q c.a
 
 pub returns-then-second : goal.returns-then-second
 returns-then-second c = let a = c.args in
-    rw (to_z-of_z {w = w64} (record { sfits = c.z-1.given })) (ap (look a.values) c.vertex_at-v.ensures ∙ second_column a.q a.i c.requires.0 (look a.values) a.c c.requires.1 a.second c.if-second.true)
+    let fits : SFits w64 (get_or a.values c.vertex_at-v.result (pos 0)) = search rules in
+    rw (to_z-of_z {w = w64} fits) (ap (look a.values) c.vertex_at-v.ensures ∙ second_column a.q a.i c.requires.0 (look a.values) a.c c.requires.1 a.second c.if-second.true)
 
 pub returns : goal.returns
 returns c = let a = c.args in
+    let fits : SFits w64 (get_or a.values c.vertex_at-v.result (pos 0)) = search rules in
     to_z-of_z {w = w64} (record { sfits = c.change_value.type_inv })
-    ∙ (rw (to_z-of_z {w = w64} (record { sfits = c.z-1.given })) at c.change_value.ensures)
+    ∙ (rw (to_z-of_z {w = w64} fits) at c.change_value.ensures)
     ∙ ap (λ v. or_else (fixed (question_of a.q) a.i a.c) (look a.values v)) c.vertex_at-v.ensures
     ∙ first_column a.q a.i c.requires.0 (look a.values) a.c c.requires.1 a.second c.if-second.false
