@@ -32,9 +32,9 @@ module _ (near : Grid) (n b a : ℕ) (k : ℤ) (sz : Sized most_vertices near) (
   entry_fits : (v : ℕ) → v < n → SFits w64 (get_or (row g u) v (pos 0))
   entry_fits v hv = rw (entry v hv) (exact_wide (weight near u v) (bounded_more far_n wide (weight near u v) (omega arith) (all.entry u v hu hv)))
 
-  -- the way to the new edge and along it
-  bounded : Bounded wide (get_or (row g u) b (pos 0) +ℤ k)
-  bounded = rw e (reach_bounded near n b a k sz h hk all u hu)
+  -- the way to a vertex and along the new edge
+  bounded : (v : ℕ) → v < n → Bounded wide (get_or (row g u) v (pos 0) +ℤ k)
+  bounded v hv = rw e (reach_bounded near n v a k sz (h.0, hv, h.2) hk all u hu)
 
   -- what the edge doesn't lower at its end
   not_lowered : le_z (get_or (row g u) a (pos 0)) (get_or (row g u) b (pos 0) +ℤ k) ≡ true → weight near u a ≤ℤ (weight near u b +ℤ k)
@@ -49,8 +49,8 @@ overflow_add-reach c = let l = c.loop-u in
     let r = c.requires.n_le_most_vertices in
     let near = c.args.near.now in
     let e = as_it_was near l.near _ l.u l.invariant.1 in
-    let x = entry_fits near c.args.n c.args.b c.args.a c.args.k r.3 (r.0, r.1, r.2) c.requires.bounded c.requires.all_within l.near l.u c.loop-u-test.true e c.args.b r.1 in
-    simp (to_z-of_z, c.ranges.k, x) (exact_wide _ (bounded near c.args.n c.args.b c.args.a c.args.k r.3 (r.0, r.1, r.2) c.requires.bounded c.requires.all_within l.near l.u c.loop-u-test.true e))
+    let x = entry_fits near c.args.n c.args.b c.args.a c.args.k r.3 (r.0, r.1, r.2) c.requires.bounded c.requires.all_within l.near l.u c.loop-u-test.true e in
+    simp (to_z-of_z, c.ranges.k, x c.args.b r.1, x c.args.a r.2) (exact_wide _ (bounded near c.args.n c.args.b c.args.a c.args.k r.3 (r.0, r.1, r.2) c.requires.bounded c.requires.all_within l.near l.u c.loop-u-test.true e _ (omega (arith, r))))
 
 pub loop-u-preserved-then-there-reach : goal.loop-u-preserved-then-there-reach
 loop-u-preserved-then-there-reach c = let near = c.args.near.now in
@@ -60,7 +60,7 @@ loop-u-preserved-then-there-reach c = let near = c.args.near.now in
     let e = as_it_was near l.near _ l.u l.invariant.1 in
     let x = entry_fits near c.args.n c.args.b c.args.a c.args.k r.3 (r.0, r.1, r.2) c.requires.bounded c.requires.all_within l.near l.u hu e c.args.b r.1 in
     let y = entry_fits near c.args.n c.args.b c.args.a c.args.k r.3 (r.0, r.1, r.2) c.requires.bounded c.requires.all_within l.near l.u hu e c.args.a r.2 in
-    let w = exact_wide _ (bounded near c.args.n c.args.b c.args.a c.args.k r.3 (r.0, r.1, r.2) c.requires.bounded c.requires.all_within l.near l.u hu e) in
+    let w = exact_wide _ (bounded near c.args.n c.args.b c.args.a c.args.k r.3 (r.0, r.1, r.2) c.requires.bounded c.requires.all_within l.near l.u hu e c.args.b r.1) in
     let t : le_z (get_or (row l.near l.u) c.args.a (pos 0)) (get_or (row l.near l.u) c.args.b (pos 0) +ℤ c.args.k) ≡ true = simp (to_z-of_z, c.ranges.k, x, y, w) at c.if-there-reach.true in
     let inv : l.near ≡ filled (new_row near c.args.n c.args.b c.args.a c.args.k) l.u near = simp (to_z-of_z, c.ranges.k) at l.invariant.1 in
     let low = not_lowered near c.args.n c.args.b c.args.a c.args.k r.3 (r.0, r.1, r.2) c.requires.bounded c.requires.all_within l.near l.u hu e t in
@@ -73,13 +73,13 @@ relax_row-requires-clause-bounded c = let near = c.args.near.now in
     let r = c.requires.n_le_most_vertices in
     let hu = c.loop-u-test.true in
     let e = as_it_was near l.near _ l.u l.invariant.1 in
-    let x = entry_fits near c.args.n c.args.b c.args.a c.args.k r.3 (r.0, r.1, r.2) c.requires.bounded c.requires.all_within l.near l.u hu e c.args.b r.1 in
+    let x = entry_fits near c.args.n c.args.b c.args.a c.args.k r.3 (r.0, r.1, r.2) c.requires.bounded c.requires.all_within l.near l.u hu e in
     let w = bounded near c.args.n c.args.b c.args.a c.args.k r.3 (r.0, r.1, r.2) c.requires.bounded c.requires.all_within l.near l.u hu e in
-    simp (to_z-of_z, c.ranges.k, x, exact_wide _ w) w
+    simp (to_z-of_z, c.ranges.k, x c.args.b r.1, x c.args.a r.2, exact_wide _ (w c.args.b r.1), exact_wide _ (w c.args.a r.2)) (w _ (omega (arith, r)))
 
 pub relax_row-requires-clause-row_within : goal.relax_row-requires-clause-row_within
 relax_row-requires-clause-row_within c = let r = c.requires.n_le_most_vertices in
-    on_within c.args.near.now c.args.n c.args.b c.args.a c.args.k r.3 (r.0, r.1, r.2) c.requires.bounded c.requires.all_within
+    on_within c.args.near.now c.args.n c.args.b _ c.args.k r.3 (r.0, r.1, omega (arith, r)) c.requires.bounded c.requires.all_within
 
 pub loop-u-preserved : goal.loop-u-preserved
 loop-u-preserved c = let near = c.args.near.now in
@@ -88,7 +88,7 @@ loop-u-preserved c = let near = c.args.near.now in
     let hu = c.loop-u-test.true in
     let e = as_it_was near l.near _ l.u l.invariant.1 in
     let x = entry_fits near c.args.n c.args.b c.args.a c.args.k r.3 (r.0, r.1, r.2) c.requires.bounded c.requires.all_within l.near l.u hu e c.args.b r.1 in
-    let w = bounded near c.args.n c.args.b c.args.a c.args.k r.3 (r.0, r.1, r.2) c.requires.bounded c.requires.all_within l.near l.u hu e in
+    let w = bounded near c.args.n c.args.b c.args.a c.args.k r.3 (r.0, r.1, r.2) c.requires.bounded c.requires.all_within l.near l.u hu e c.args.b r.1 in
     let new : c.relax_row.new.row ≡ new_row near c.args.n c.args.b c.args.a c.args.k l.u =
     (rw e at (simp (to_z-of_z, c.ranges.k, x, exact_wide _ w) at c.relax_row.ensures))
     ∙ row_is near c.args.n c.args.b c.args.a c.args.k r.3 (r.0, r.1, r.2) c.requires.bounded c.requires.all_within l.u hu in (
