@@ -16,9 +16,6 @@ pub returns-then-sheet-lt8 : goal.returns-then-sheet-lt8
 unfolding check_no
 returns-then-sheet-lt8 c = rw (lt-leb _ _ c.if-sheet-lt8.true)
 
-pub overflow_cast-i : goal.overflow_cast-i
-overflow_cast-i c = omega (arith, c.shared_slice_known-2-1.given 7)
-
 pub returns-then-n-i : goal.returns-then-n-i
 unfolding check_no
 returns-then-n-i c = let l = c.args.sheet.now in

@@ -1,5 +1,4 @@
 use Prim.Native.Nat.{◌+◌, ◌*◌}
-use native.Mathlib.Omega.{arith}
 use lib.ListN.{get_or}
 use borrow.Author.Tests.{le-leb, lt-leb, ne_eqb}
 use Rattle.page_sheets.specs.Sheet.{check_sheet_under}
@@ -24,18 +23,6 @@ returns-then-sheet-ne83 c = rw (le-leb _ _ c.if-sheet-lt3.false, c.if-sheet-ne86
 pub returns-then-sheet-lt5 : goal.returns-then-sheet-lt5
 unfolding check_sheet_under
 returns-then-sheet-lt5 c = rw (le-leb _ _ c.if-sheet-lt3.false, c.if-sheet-ne86.false, c.if-sheet-ne85.false, c.if-sheet-ne83.false, lt-leb _ _ c.if-sheet-lt5.true)
-
-pub overflow_cast-sheet : goal.overflow_cast-sheet
-overflow_cast-sheet c = omega (arith, c.shared_slice_known-5-1.given 3)
-
-pub overflow_cast-sheet-2 : goal.overflow_cast-sheet-2
-overflow_cast-sheet-2 c = omega (arith, c.shared_slice_known-6-1.given 4)
-
-pub overflow_mul-sheet : goal.overflow_mul-sheet
-overflow_mul-sheet c = omega (arith, c.shared_slice_known-6-1.given 4)
-
-pub overflow_add-sheet : goal.overflow_add-sheet
-overflow_add-sheet c = omega (arith, c.shared_slice_known-5-1.given 3, c.shared_slice_known-6-1.given 4)
 
 pub returns-then-sheet-ne1 : goal.returns-then-sheet-ne1
 unfolding check_sheet_under
