@@ -5,19 +5,19 @@ SHELL := /bin/bash
 
 cargo = cargo $(1) --quiet --offline --release --manifest-path rust/Cargo.toml
 
-# Layout; every proof, must-fail edit and program run, from nothing; then the tests in Rust, which call the proved library.
-# rt's count, the last line of `rt ci`, is said again at the end.
+# Every proof, must-fail edit and program run, and the layout; then the tests in Rust, which call the proved library and the programs.
+# An edit that cannot be applied shows nothing of a contract, so it fails this. The last line is that of `rt ci`.
 test: house
-	rt fmt --check
-	log=$$(mktemp); trap 'rm -f "$$log"' EXIT; rt ci | tee "$$log"; $(MAKE) --no-print-directory lib; $(call cargo,test); tail -n 1 "$$log"
+	log=$$(mktemp); trap 'rm -f "$$log"' EXIT; rt ci | tee "$$log"; if grep -qE '^rt: ok.*, [0-9]+ bad' "$$log"; then echo 'a must-fail edit cannot be applied'; exit 1; fi; $(MAKE) --no-print-directory lib programs; $(call cargo,test); tail -n 1 "$$log"
 
-# What a reader must believe stands in specs/: no definition there, and no contract, may be borrowed from a proof.
+# What a reader must believe stands in specs/: no definition there, and no contract, may be borrowed from a proof. What stands in
+# `Rattle.std.proofs` is the library's own, and there only its definitions are named.
 house:
-	if grep -rnE 'use Rattle·[^ ]*proofs\.' crates/*/specs crates/*/src; then echo 'a definition is borrowed from a proof: move it to specs/'; exit 1; fi
+	if grep -rnE 'use Rattle\.[^ ]*proofs\.' crates/*/specs crates/*/src | grep -v 'use Rattle\.std\.proofs\.'; then echo 'a definition is borrowed from a proof: move it to specs/'; exit 1; fi
 
-# The programs for people: target/bin/ask, write_sheet and check_sheet.
+# The programs for people: each stands in crates/NAME/out/NAME. rt runs what it has built, here on no input and no words.
 programs:
-	rt check ask write_sheet check_sheet
+	for name in ask write_sheet check_sheet; do (cd crates/$$name && rt run < /dev/null > /dev/null); done
 
 # A question asked, its sheet written and checked, as README shows.
 run: programs
@@ -25,22 +25,19 @@ run: programs
 
 # FORMAT 9.3 and 9.5: the twelve cases, and the shortcuts that are wrong, with both answers and the rows that show a no.
 twelve:
-	rt check twelve
-	examples/start twelve
+	cd crates/twelve && rt run
 
 # The published examples of two reports: what the report says, and our verdicts, as irrelevant/computable.
 published:
-	rt check published
-	examples/start published < crates/published/stdin
+	cd crates/published && rt run < stdin
 
 # The reader on byte strings for each number that says no, at several places: number and place, and what was changed.
 refusals:
-	rt check refusals
-	examples/start refusals < crates/refusals/stdin
+	cd crates/refusals && rt run < stdin
 
-# The library for C and Rust: target/staticlib/libcapi.a, with include/slushtrowel.h.
+# The library for C and Rust: crates/capi/out/libcapi.a, with include/slushtrowel.h.
 lib:
-	rt staticlib capi | tail -n 1
+	cd crates/capi && rt lib | tail -n 1
 
 # The library against the independent implementation, for so many seconds from a seed.
 LONG ?= 600
@@ -83,4 +80,4 @@ stack: timed
 	$(call cargo,run) -p diff --bin stack
 
 fmt:
-	rt fmt
+	for crate in crates/*/; do (cd $$crate && rt fmt); done
