@@ -54,12 +54,11 @@ pub overflow_add-sum : goal.overflow_add-sum
 overflow_add-sum c = rw (added (goal.at.overflow_add-sum c).After-edge_with-sum) (exact (goal.at.overflow_add-sum c).After-edge_with-sum)
 
 pub loop-i-preserved : goal.loop-i-preserved
-loop-i-preserved c = let l = c.loop-i in
-    (
-      search rules,
-      omega (arith, c.loop-i-test.true),
-      rw (added (goal.at.loop-i-preserved c).After-edge_with-sum, to_z-of_z (exact (goal.at.loop-i-preserved c).After-edge_with-sum)) (part_next most_vertices (facts (goal.at.loop-i-preserved c).Start) c.args.vertices.now c.requires.vertices_nonzero.2 c.requires.sized.1 l.i l.at (to_z w64 l.sum-bits) l.invariant.2 c.loop-i-test.true),
-    )
+loop-i-preserved c = let l = c.loop-i in (
+  search rules,
+  omega (arith, c.loop-i-test.true),
+  rw (added (goal.at.loop-i-preserved c).After-edge_with-sum, to_z-of_z (exact (goal.at.loop-i-preserved c).After-edge_with-sum)) (part_next most_vertices (facts (goal.at.loop-i-preserved c).Start) c.args.vertices.now c.requires.vertices_nonzero.2 c.requires.sized.1 l.i l.at (to_z w64 l.sum-bits) l.invariant.2 c.loop-i-test.true),
+)
 
 pub edge_with-requires : goal.edge_with-requires
 edge_with-requires c = (c.loop-i.invariant.2.here, first_below (goal.at.edge_with-requires c).Start, c.requires.sized.2, c.requires.sized.3, c.requires.sized.0)
