@@ -36,6 +36,7 @@ fn from_asked(q: Question, asked: u8, sheet: &[u8]) -> Judged
 }
 
 // The mark `VUS` is 86 85 83.
+#[tactic(auto, unfolding(page_sheets::specs::Sheet::check_sheet_under))]
 pub fn from_mark(q: Question, asked: u8, sheet: &[u8]) -> Judged
     requires { Held q × Accepted (question_of q) }
     ensures { judged_of result ≡ check_sheet (question_of q) asked sheet.now }
