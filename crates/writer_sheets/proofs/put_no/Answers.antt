@@ -1,5 +1,5 @@
-use mathlib.Core.Path.{refl, sym, ◌∙◌}
-use lib.ListN.{length-map}
+use mathlib.Core.Path.{refl}
+use native.Mathlib.Omega.{arith}
 use Rattle.question.specs.Held.{question_of}
 use Rattle.writer_rows.proofs.ShownFormulas.{showable}
 use Rattle.writer_sheets.proofs.Sheets.{number_there, number_byte, fine_open, sheet_no}
@@ -16,7 +16,7 @@ overflow_cast-number c = record { fits = number_byte (question_of c.args.q) c.re
 
 pub put_refutation-requires : goal.put_refutation-requires
 put_refutation-requires c = let q = c.args.q in
-    showable q (record { held = c.requires.0; long = sym (length-map q.columns _) ∙ c.well_formed.1.0.1.1.1.0.1.0.1 }) c.requires.1.well_formed c.args.asked _ (number_there (question_of q) c.requires.1 c.args.asked c.args.number c.requires.2)
+    showable q (record { held = c.requires.0; long = omega arith }) c.requires.1.well_formed c.args.asked _ (number_there (question_of q) c.requires.1 c.args.asked c.args.number c.requires.2)
 
 pub returns : goal.returns
 returns c = sheet_no (question_of c.args.q) c.requires.1 c.args.asked c.args.number c.requires.2 _ c.outline-o.ensures.0 c.first_leaf-values.result c.first_leaf-values.ensures c.args.room.now _ _ _ _ c.put_header-start.ensures c.put_refutation.ensures
