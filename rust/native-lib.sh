@@ -6,28 +6,31 @@ set -euo pipefail
 cd "$(dirname "$0")/.."
 machine=$(uname -m)
 kit=${RATTLE_HOME:-$(dirname "$(dirname "$(readlink -f "$(command -v rt)")")")}
-tools=$kit/on/$machine/toolchain
+tools=$kit/toolchain
 out=$PWD/target/native
 shadow=$out/kit
 rm -rf "$out"
-mkdir -p "$shadow/on/$machine/toolchain/bin"
+mkdir -p "$shadow/bin" "$shadow/toolchain/bin"
 
-# a kit beside the kit: all is as there, but its compiler keeps a copy of the module
-link_all() { # FROM TO BUT
-    for entry in "$1"/*; do [ "${entry##*/}" = "$3" ] || ln -s "$entry" "$2/"; done
+# a kit beside the kit: all is as there, but its compiler keeps a copy of the module; rt finds its kit by where its own file lies
+link_all() { # FROM TO BUT..
+    for entry in "$1"/*; do
+        case " ${*:3} " in *" ${entry##*/} "*) ;; *) ln -s "$entry" "$2/" ;; esac
+    done
 }
-link_all "$kit" "$shadow" on
-link_all "$kit/on/$machine" "$shadow/on/$machine" toolchain
-link_all "$tools" "$shadow/on/$machine/toolchain" bin
-link_all "$tools/bin" "$shadow/on/$machine/toolchain/bin" clang
-cat > "$shadow/on/$machine/toolchain/bin/clang" <<END
+link_all "$kit" "$shadow" bin toolchain
+link_all "$kit/bin" "$shadow/bin" rt rtlib.py
+cp "$kit/bin/rt" "$kit/bin/rtlib.py" "$shadow/bin"
+link_all "$tools" "$shadow/toolchain" bin
+link_all "$tools/bin" "$shadow/toolchain/bin" clang
+cat > "$shadow/toolchain/bin/clang" <<END
 #!/bin/sh
 cp module.bc "$out/module.bc"
 exec "$tools/bin/clang" "\$@"
 END
-chmod +x "$shadow/on/$machine/toolchain/bin/clang"
-RATTLE_HOME=$shadow rt staticlib capi | tail -n 1
+chmod +x "$shadow/toolchain/bin/clang"
+(cd crates/capi && "$shadow/bin/rt" lib) | tail -n 1
 
 "$tools/bin/clang" "--target=$machine-unknown-linux-gnu" -Wno-override-module -O3 -fPIC -ffunction-sections -c -x ir "$out/module.bc" -o "$out/capi.o"
 "$tools/bin/llvm-ar" rcs "$out/libcapi.a" "$out/capi.o"
-rm -rf "$shadow" "$out/module.bc" "$out/capi.o"
+rm -rf "$shadow" "$out/rattle-kept" "$out/module.bc" "$out/capi.o"
