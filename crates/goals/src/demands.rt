@@ -5,7 +5,7 @@ ghost use Rattle.program_tree.specs.Nodes.{tree_of, size_at};
 ghost use Rattle.goals.specs.Goals.{splitting, unlike, stack_of, total, Standing, Takes};
 ghost use Rattle.goals.specs.Goals as goals;
 
-use crate::facts::enter_place;
+use crate::entering::enter_place;
 use crate::goals::goal;
 use crate::types::Taken;
 use limits::{INSTRUCTIONS, VERTICES};

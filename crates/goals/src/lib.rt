@@ -2,6 +2,6 @@
 #![tactic(auto)]
 
 pub mod demands;
-pub mod facts;
+pub mod entering;
 pub mod goals;
 pub mod types;

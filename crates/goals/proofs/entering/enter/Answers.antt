@@ -13,8 +13,8 @@ use Rattle.page_walks.specs.Sizes.{Bounded, AllWithin, tabled}
 use Rattle.page_walks.specs.Nearness.{relax, Triangle}
 use Rattle.page_walks.proofs.Rows.{read}
 use Rattle.goals.proofs.Tightening.{closer_tabled, sum_fits, tight_within, below_zero, from_zero}
-use Rattle.goals.proofs.facts.enter.Goals as goal
-use Rattle.goals.proofs.facts.enter.Goals.{After-round-1}
+use Rattle.goals.proofs.entering.enter.Goals as goal
+use Rattle.goals.proofs.entering.enter.Goals.{After-round-1}
 
 pub offset_bounds-near-to : goal.offset_bounds-near-to
 offset_bounds-near-to c = omega (arith, c.requires.0, c.requires.1.from_is, c.requires.1.to_is)

@@ -7,7 +7,7 @@ use Rattle.page_sheets.specs.Facts.{taken}
 use Rattle.grid.specs.Edges.{Fact}
 use Rattle.program_tree.specs.Nodes.{place_of}
 use Rattle.goals.proofs.Tightening.{enters_as}
-use Rattle.goals.proofs.facts.enter_place.Goals as goal
+use Rattle.goals.proofs.entering.enter_place.Goals as goal
 
 pub enter-requires : goal.enter-requires
 enter-requires c = let a = c.args in let q = place_of a.left a.right a.most in
