@@ -2,7 +2,6 @@ use Prim.Native.Nat.{◌-◌, ◌≤◌}
 use mathlib.Core.Path.{◌≡◌}
 use lib.ListN.{length}
 use Rattle.question.specs.Held.{question_of}
-use Rattle.page_formulas.specs.Formulas.{formulas}
 use Rattle.writer_sheets.proofs.Trees.{Sown}
 use Rattle.writer_sheets.proofs.put_trees.Given as goal
 

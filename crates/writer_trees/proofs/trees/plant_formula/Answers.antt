@@ -4,7 +4,6 @@ use mathlib.Core.Path.{◌≡◌, sym}
 use lib.ListN.{length, take}
 use Rattle.page_meaning.specs.Limits.{most_vertices}
 use Rattle.page_formulas.specs.Formulas.{Formula}
-use Rattle.page_formulas.specs.ProperFormulas.{Proper}
 use Rattle.program.specs.Formulas as compiled
 use Rattle.program.specs.Compiled.{Compiled, formula_of}
 use Rattle.program.proofs.Loans.{kinds_long, places_long, small_spans, spanned_of}
