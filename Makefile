@@ -15,9 +15,10 @@ test: house
 house:
 	if grep -rnE 'use Rattle\.[^ ]*proofs\.' crates/*/specs crates/*/src | grep -v 'use Rattle\.std\.proofs\.'; then echo 'a definition is borrowed from a proof: move it to specs/'; exit 1; fi
 
-# The programs for people: each stands in crates/NAME/out/NAME. rt runs what it has built, here on no input and no words.
+# The programs for people: target/bin/ask, write_sheet and check_sheet. rt runs what it has built, here on no input and no words.
 programs:
-	for name in ask write_sheet check_sheet; do (cd crates/$$name && rt run < /dev/null > /dev/null); done
+	mkdir -p target/bin
+	for name in ask write_sheet check_sheet; do (cd crates/$$name && rt run < /dev/null > /dev/null && cp out/$$name ../../target/bin/); done
 
 # A question asked, its sheet written and checked, as README shows.
 run: programs
@@ -35,9 +36,11 @@ published:
 refusals:
 	cd crates/refusals && rt run < stdin
 
-# The library for C and Rust: crates/capi/out/libcapi.a, with include/slushtrowel.h.
+# The library for C and Rust: target/staticlib/libcapi.a, with include/slushtrowel.h.
 lib:
 	cd crates/capi && rt lib | tail -n 1
+	mkdir -p target/staticlib
+	cp crates/capi/out/libcapi.a target/staticlib/
 
 # The library against the independent implementation, for so many seconds from a seed.
 LONG ?= 600

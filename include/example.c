@@ -1,7 +1,7 @@
 /* A small program over the C interface.
  *
  *     make lib
- *     cc -Iinclude include/example.c crates/capi/out/libcapi.a -o example && ./example
+ *     cc -Iinclude include/example.c target/staticlib/libcapi.a -o example && ./example
  *
  * KEY has the columns K (0..9, visible) and V (0..30); CLIENT has N (0..9, visible) and Q (0..9). The
  * list shows K and N where K = Q and V >= 10. The change inserts the row (3, 9) into KEY.

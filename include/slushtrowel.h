@@ -7,7 +7,7 @@
  *     asked 1   is the change irrelevant: does it leave the list as it is, whatever the tables hold?
  *     asked 2   is it computable: does the old list alone tell the new one?
  *
- * Build the library with `make lib` and link crates/capi/out/libcapi.a (x86-64). It calls nothing
+ * Build the library with `make lib` and link target/staticlib/libcapi.a (x86-64). It calls nothing
  * but memcpy, memmove and memset (no allocation, no input or output, no global state), so the
  * functions may be called from any thread at once. They need some stack, because sheets and formulas
  * are walked by recursion: allow 2 MB. The most that was measured is 1.7 MB, for the writing of a

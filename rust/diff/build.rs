@@ -10,7 +10,7 @@ fn main() {
     let here = PathBuf::from(env!("CARGO_MANIFEST_DIR"));
     let folder = match var_os("SLUSHTROWEL_LIB") {
         Some(folder) => PathBuf::from(folder),
-        None => here.join("../../crates/capi/out"),
+        None => here.join("../../target/staticlib"),
     };
     let archive = folder.join("libcapi.a");
     println!("cargo::rerun-if-changed={}", archive.display());
@@ -46,7 +46,7 @@ fn runs_on(archive: &Path, machine: &str) -> bool {
 fn missing(archive: &Path) {
     println!("cargo::error=there is no {}", archive.display());
     println!(
-        "cargo::error=run `make lib` in the project's root (that is `rt lib` in crates/capi), then try again"
+        "cargo::error=run `make lib` in the project's root (that is `rt lib` in crates/capi, and a copy), then try again"
     );
     println!("cargo::error=or name the folder of another libcapi.a in SLUSHTROWEL_LIB");
 }

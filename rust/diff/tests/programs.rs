@@ -10,8 +10,7 @@ use std::process::Stdio;
 
 /// A program's standard output, with some words and some input.
 fn run(name: &str, words: &[&Path], input: &[u8]) -> String {
-    let program =
-        Path::new(env!("CARGO_MANIFEST_DIR")).join("../../crates").join(name).join("out").join(name);
+    let program = Path::new(env!("CARGO_MANIFEST_DIR")).join("../../target/bin").join(name);
     let mut command = command(&program);
     command.args(words).stdin(Stdio::piped()).stdout(Stdio::piped());
     let started = command.spawn();
