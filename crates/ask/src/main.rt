@@ -2,40 +2,20 @@
 // sheet that shows it.
 #![tactic(auto)]
 
-use outcome::Written;
-use printing::{line_end, text, words};
+use question::types::Asked;
+use refusal::Fault;
 use std::io;
 
-// 21 is said of the sheet that was asked for. Any other refusal is of the question: one line is all. Whether to go on.
-fn refused(rt: &impl Print, asked: u8, number: u8, place: usize) -> io::Result<bool> {
-    if number == 21 {
-        words::asked(rt, asked)?;
-        text(rt, b" noroom")?;
-        line_end(rt)?;
-        return Ok(true);
-    }
-    words::refused(rt, number, place)?;
-    Ok(false)
-}
-
-// The line for what is asked, and whether to go on.
-fn line(rt: &impl Print, asked: u8, question: &[u8], room: &mut [u8]) -> io::Result<bool> {
-    let written = answers::write(asked, question, room);
-    match written {
-        Written::Good(verdict, length) => {
-            words::answer(rt, asked, verdict, length)?;
-            line_end(rt)?;
-            Ok(true)
-        }
-        Written::Refused(number, place) => refused(rt, asked, number, place),
-    }
-}
-
-// Both lines, with 32,768 bytes of room.
+// A line for each thing that can be asked, with 32,768 bytes of room. Where a sheet has no room only that sheet is refused; any other
+// refusal is of the question, and one line is all.
 fn lines(rt: &impl Print, question: &[u8]) -> io::Result<()> {
     let mut room = [0u8; 32768];
-    if line(rt, 1, question, &mut room)? {
-        line(rt, 2, question, &mut room)?;
+    for asked in [Asked::Irrelevant, Asked::Computable] {
+        match answers::write(asked.number(), question, &mut room) {
+            Ok(sheet) => println!(rt; "{asked} {sheet}")?,
+            Err(refusal) if refusal.fault == Fault::Room => println!(rt; "{asked} noroom")?,
+            Err(refusal) => return println!(rt; "refused {refusal}"),
+        }
     }
     Ok(())
 }

@@ -3,41 +3,40 @@
 #![tactic(auto)]
 
 ghost use Rattle.std.specs.Prelude.{◌≡◌};
-ghost use Rattle.page_sheets.specs.Sheet.{verdict_byte};
 ghost use Rattle.page_sheets.specs.Answers.{verdict_of, write_of, check_of};
 ghost use Rattle.outcome.specs.Answers as answered;
-ghost use Rattle.capi.specs.Returns.{leaves, leaves_room, answer, done};
+ghost use Rattle.capi.specs.Returns.{leaves, leaves_room, answer, writing, done};
 
-use outcome::{Judged, Verdict, Written};
+use outcome::{Sheet, Verdict};
+use refusal::Refusal;
 
-// What the verdict's place holds where there is none: no caller takes it for a verdict.
+// What the verdict's place holds where there is none: no caller takes it for a verdict. The C interface has no other word for none.
 const NO_VERDICT: u8 = 255;
 
-fn byte_of(v: Verdict) -> u8
-    ensures { result ≡ verdict_byte (answered.verdict_of v) }
+// What a function leaves: its result, and what stands behind its two pointers. C has numbers for what a `Result` says.
+fn leave(told: Result<Sheet, Refusal>, verdict: &mut u8, place: &mut u64) -> u8
+    ensures { leaves result verdict.new place.new ≡ writing (answered.written_of told) }
 {
-    match v {
-        Verdict::Yes => 0,
-        Verdict::No => 1,
+    match told {
+        Ok(sheet) => {
+            *verdict = sheet.verdict.byte();
+            *place = sheet.length as u64;
+            0
+        }
+        Err(refusal) => {
+            *verdict = NO_VERDICT;
+            *place = refusal.place as u64;
+            refusal.fault.number()
+        }
     }
 }
 
-// What a verdict or a check leaves: its result, and what stands behind its two pointers.
-fn leave(told: Judged, verdict: &mut u8, place: &mut u64) -> u8
-    ensures { leaves result verdict.new place.new ≡ answer (answered.judged_of told) }
+// A verdict alone has no length: 0 stands in its place.
+fn alone(told: Result<Verdict, Refusal>) -> Result<Sheet, Refusal>
+    ensures { writing (answered.written_of result) ≡ answer (answered.judged_of told) }
 {
-    match told {
-        Judged::Good(v) => {
-            *verdict = byte_of(v);
-            *place = 0;
-            0
-        }
-        Judged::Refused(number, at) => {
-            *verdict = NO_VERDICT;
-            *place = at as u64;
-            number
-        }
-    }
+    let verdict = told?;
+    Ok(Sheet { verdict, length: 0 })
 }
 
 #[unsafe(no_mangle)]
@@ -45,7 +44,7 @@ pub extern "C" fn vu_verdict(asked: u8, question: &[u8], verdict: &mut u8, place
     ensures { leaves result verdict.new place.new ≡ answer (verdict_of asked question.now) }
 {
     let told = answers::verdict(asked, question);
-    leave(told, verdict, place)
+    leave(alone(told), verdict, place)
 }
 
 #[unsafe(no_mangle)]
@@ -59,18 +58,7 @@ pub extern "C" fn vu_write(
     ensures { leaves_room result verdict.new place.new room.new ≡ done (write_of asked question.now room.old) }
 {
     let told = answers::write(asked, question, room);
-    match told {
-        Written::Good(v, length) => {
-            *verdict = byte_of(v);
-            *place = length as u64;
-            0
-        }
-        Written::Refused(number, at) => {
-            *verdict = NO_VERDICT;
-            *place = at as u64;
-            number
-        }
-    }
+    leave(told, verdict, place)
 }
 
 #[unsafe(no_mangle)]
@@ -84,5 +72,5 @@ pub extern "C" fn vu_check(
     ensures { leaves result verdict.new place.new ≡ answer (check_of asked question.now sheet.now) }
 {
     let told = answers::check(asked, question, sheet);
-    leave(told, verdict, place)
+    leave(alone(told), verdict, place)
 }

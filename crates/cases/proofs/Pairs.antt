@@ -11,8 +11,8 @@ use lib.ListN.{length, get_or, take, drop, set, take-append-drop, length-set}
 use lib.Seq.{drop-cons, drop-drop, drop-set-lt, take-suc-set, append_snoc, length-take-le, drop-length}
 use Rattle.cases.specs.Hex.{byte_of, before, bytes_of_hex}
 use Rattle.cases.specs.Decoding.{Decodes}
-use Rattle.cases.specs.declared.Decoded.TheVariants as decoded
-use Rattle.cases.proofs.Digits.{below, above}
+use Rattle.std.specs.Prelude as std
+use Rattle.std.proofs.lemmas.Bool.{lt-ltb, le-ltb}
 
 -- some bytes before others
 abbrev after : List ℕ → Option (List ℕ) → Option (List ℕ)
@@ -44,18 +44,18 @@ sized (high ∷ []) = tt
 sized (high ∷ low ∷ rest) = sized_more (ltb (byte_of high low) 256) (byte_of high low) (length rest) (bytes_of_hex rest) (sized rest)
 
 -- an odd number of digits, and more bytes than the room has
-odd : (o : Option (List ℕ)) (n : ℕ) (old new : List ℕ) → Sized o n → ¬ (n ≡ 2 * (n / 2)) → Decodes o decoded.Wrong old new
+odd : (o : Option (List ℕ)) (n : ℕ) (old new : List ℕ) → Sized o n → ¬ (n ≡ 2 * (n / 2)) → Decodes o std.None old new
 odd none n old new h f = tt
 odd (some bytes) n old new h f = absurd (f (omega (arith, h)))
 
-long : (o : Option (List ℕ)) (n : ℕ) (old new : List ℕ) → Sized o n → length old < n / 2 → Decodes o decoded.Wrong old new
+long : (o : Option (List ℕ)) (n : ℕ) (old new : List ℕ) → Sized o n → length old < n / 2 → Decodes o std.None old new
 long none n old new h f = tt
 long (some bytes) n old new h f = omega (arith, h, f)
 
-pub refused_odd : (s old new : List ℕ) → ¬ (length s ≡ 2 * (length s / 2)) → Decodes (bytes_of_hex s) decoded.Wrong old new
+pub refused_odd : (s old new : List ℕ) → ¬ (length s ≡ 2 * (length s / 2)) → Decodes (bytes_of_hex s) std.None old new
 refused_odd s old new f = odd (bytes_of_hex s) (length s) old new (sized s) f
 
-pub refused_long : (s old new : List ℕ) → length old < length s / 2 → Decodes (bytes_of_hex s) decoded.Wrong old new
+pub refused_long : (s old new : List ℕ) → length old < length s / 2 → Decodes (bytes_of_hex s) std.None old new
 refused_long s old new f = long (bytes_of_hex s) (length s) old new (sized s) f
 
 first : (s : List ℕ) (j : ℕ) → j < length s → drop j s ≡ get_or s j 0 ∷ drop (j + 1) s
@@ -71,7 +71,7 @@ pub stage_start : (s old : List ℕ) → Stage s old 0 old
 stage_start s old = record { long = refl; rest = refl; means = after_none (bytes_of_hex s) }
 
 module _ (s old : List ℕ) (i : ℕ) (room : List ℕ) (h : Stage s old i room) where
-  pub stage_end : length s ≡ 2 * i → i ≤ length old → Decodes (bytes_of_hex s) (decoded.Bytes i) old room
+  pub stage_end : length s ≡ 2 * i → i ≤ length old → Decodes (bytes_of_hex s) (std.Some i) old room
   unfolding bytes_of_hex
   stage_end e f =
       let none_left : drop (2 * i) s ≡ [] = subst (λ n. drop n s ≡ []) e (drop-length s) in
@@ -79,7 +79,7 @@ module _ (s old : List ℕ) (i : ℕ) (room : List ℕ) (h : Stage s old i room)
       ap some (sym (append-nil (take i room))) ∙ ap (λ l. after (take i room) (bytes_of_hex l)) (sym none_left) ∙ h.means
       in
       let whole : room ≡ take i room ++ drop i old = sym (take-append-drop i room) ∙ ap (λ l. take i room ++ l) h.rest in
-      subst (λ o. Decodes o (decoded.Bytes i) old room) all (sym (length-take-le i room (omega (arith, f, h.long))), f, whole)
+      subst (λ o. Decodes o (std.Some i) old room) all (sym (length-take-le i room (omega (arith, f, h.long))), f, whole)
 
   module _ (e : 2 * i + 1 < length s) (x : ℕ) (b : x ≡ byte_of (get_or s (2 * i) 0) (get_or s (2 * i + 1) 0)) where
     -- what is still to come, and what comes after its first pair
@@ -89,16 +89,16 @@ module _ (s old : List ℕ) (i : ℕ) (room : List ℕ) (h : Stage s old i room)
         let two : 2 * (i + 1) ≡ 2 * i + 1 + 1 = omega arith in
         rw (b, two, first s (2 * i) (omega (arith, e)), first s (2 * i + 1) e)
 
-    pub stage_wrong : 256 ≤ x → Decodes (bytes_of_hex s) decoded.Wrong old room
+    pub stage_wrong : 256 ≤ x → Decodes (bytes_of_hex s) std.None old room
     stage_wrong f =
-        let nothing : bytes_of_hex (drop (2 * i) s) ≡ none = pair ∙ rw (above x 256 f) in
-        subst (λ o. Decodes o decoded.Wrong old room) (sym (ap (after (take i room)) nothing) ∙ h.means) tt
+        let nothing : bytes_of_hex (drop (2 * i) s) ≡ none = pair ∙ rw (le-ltb x 256 f) in
+        subst (λ o. Decodes o std.None old room) (sym (ap (after (take i room)) nothing) ∙ h.means) tt
 
     pub stage_next : x < 256 → i < length old → Stage s old (i + 1) (set room i x)
     stage_next f g =
         let there : i < length room = omega (arith, g, h.long) in
         let to-come = bytes_of_hex (drop (2 * (i + 1)) s) in
-        let some_more : bytes_of_hex (drop (2 * i) s) ≡ before true x to-come = pair ∙ rw (below x 256 f) in
+        let some_more : bytes_of_hex (drop (2 * i) s) ≡ before true x to-come = pair ∙ rw (lt-ltb x 256 f) in
         let done : take (i + 1) (set room i x) ≡ take i room ++ (x ∷ []) = rw (add-one) (take-suc-set room i x there) in
         record {
           long = length-set room i x ∙ h.long;

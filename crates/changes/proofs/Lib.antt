@@ -1,1 +1,1 @@
-pub mod ModeLaws
+pub mod RowLaws

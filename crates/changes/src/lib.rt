@@ -3,3 +3,4 @@
 pub mod change;
 pub mod modes;
 pub mod rows;
+pub mod table;

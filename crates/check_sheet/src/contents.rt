@@ -1,125 +1,77 @@
 // The contents that a no sheet means: one row a table from its values; for an insert the changed table is empty; where two contents
 // are meant and there is one row, the second are all empty.
-use printing::{line_end, numbers, text};
-use question::types::Verb;
+use printing::numbers::rows;
+use question::types::{Asked, Verb};
 use std::io;
+use std::ops::Range;
 
-// What a line of the table shows: the columns' numbers, the values of some columns, or those of all others.
-#[derive(Clone, Copy)]
-enum Part {
-    Numbers,
-    Among,
-    Others,
-}
-
-// Whether column i is one of those from `from` to before `to`.
-fn is_among(i: usize, from: usize, to: usize) -> bool {
-    if i < from {
-        return false;
+fn numbers(rt: &impl Print, columns: usize) -> io::Result<()> {
+    rt.print("column    ")?;
+    for i in 0..columns {
+        print!(rt; "{i:>12}")?;
     }
-    i < to
+    rt.println("")
 }
 
-// A value, or - where its table has no row.
-fn value(rt: &impl Print, z: i32, is_there: bool) -> io::Result<()> {
-    if is_there {
-        numbers::cell(rt, z)
-    } else {
-        text(rt, b"           -")
-    }
-}
-
-fn cell(rt: &impl Print, part: Part, i: usize, is_among: bool, z: i32) -> io::Result<()> {
-    match part {
-        Part::Numbers => numbers::count_cell(rt, i),
-        Part::Among => value(rt, z, is_among),
-        Part::Others => value(rt, z, !is_among),
-    }
-}
-
-// A line of the table, over a row's values.
-fn line(
+// A line over a row's values, with - for a column that has none since its table has no row.
+fn line<F: Fn(usize) -> bool>(
     rt: &impl Print,
-    label: &[u8],
-    row: &[u8],
-    part: Part,
-    from: usize,
-    to: usize,
-) -> io::Result<()> {
-    text(rt, label)?;
-    let values = row.len() / 4;
-    let mut i = 0;
-    while i < values {
-        cell(
-            rt,
-            part,
-            i,
-            is_among(i, from, to),
-            ints::read_i32(row, 4 * i),
-        )?;
-        i += 1;
+    label: &str,
+    row: &[[u8; 4]],
+    has_value: F,
+) -> io::Result<()>
+    requires { F.IsAlwaysCallable has_value }
+{
+    rt.print(label)?;
+    for (i, value) in row.iter().enumerate() {
+        if has_value(i) {
+            let value = i32::from_le_bytes(*value);
+            print!(rt; "{value:>12}")?;
+        } else {
+            print!(rt; "{:>12}", "-")?;
+        }
     }
-    line_end(rt)
+    rt.println("")
 }
 
-// The second contents: the second row, or none.
-fn second_contents(rt: &impl Print, first: &[u8], second: &[u8]) -> io::Result<()> {
-    if second.len() == 0 {
-        line(rt, b"contents 2", first, Part::Among, 0, 0)
-    } else {
-        line(rt, b"contents 2", second, Part::Others, 0, 0)
-    }
-}
-
-// The values start at byte 8. The columns from `from` to before `to` are those of the table that an insert finds empty.
+// The columns `empty` are those of the table that an insert finds empty.
 fn table(
     rt: &impl Print,
-    asked: u8,
-    sheet: &[u8],
-    columns: u8,
-    from: usize,
-    to: usize,
+    asked: Asked,
+    first: &[[u8; 4]],
+    second: &[[u8; 4]],
+    empty: Range<usize>,
 ) -> io::Result<()> {
-    let start = 8;
-    let end = start + 4 * (columns as usize);
-    if end <= sheet.len() {
-        let first = &sheet[start..end];
-        let second = &sheet[end..];
-        text(
-            rt,
-            b"contents that break it, by column; - where a table has no row\n",
-        )?;
-        line(rt, b"column    ", first, Part::Numbers, 0, 0)?;
-        if asked == 1 {
-            line(rt, b"contents  ", first, Part::Others, from, to)?;
-        } else {
-            line(rt, b"contents 1", first, Part::Others, from, to)?;
-            second_contents(rt, first, second)?;
-        }
-        if from < to {
-            line(rt, b"inserted  ", first, Part::Among, from, to)?;
+    rt.println("contents that break it, by column; - where a table has no row")?;
+    numbers(rt, first.len())?;
+    match asked {
+        Asked::Irrelevant => line(rt, "contents  ", first, |i| !empty.contains(&i))?,
+        Asked::Computable => {
+            line(rt, "contents 1", first, |i| !empty.contains(&i))?;
+            if second.is_empty() {
+                line(rt, "contents 2", first, |_| false)?;
+            } else {
+                line(rt, "contents 2", second, |_| true)?;
+            }
         }
     }
-    Ok(())
+    if empty.is_empty() {
+        return Ok(());
+    }
+    line(rt, "inserted  ", first, |i| empty.contains(&i))
 }
 
-// A number that the reader keeps far below 256.
-fn small(n: usize) -> u8 {
-    if n < 256 { n as u8 } else { 255 }
-}
-
-pub fn show(rt: &impl Print, asked: u8, question: &[u8], sheet: &[u8]) -> io::Result<()> {
-    let reading = reader::read(question);
-    let question = reading.question;
+pub fn show(rt: &impl Print, asked: Asked, question: &[u8], sheet: &[u8]) -> io::Result<()> {
+    let Ok(question) = reader::read(question) else {
+        return Ok(());
+    };
     let shape = question.shape;
-    let change = question.change;
-    let verb = change.verb;
-    let columns = small(shape.total);
-    let from = small(shape.first) as usize;
-    let width = small(shape.width) as usize;
-    match verb {
-        Verb::Insert => table(rt, asked, sheet, columns, from, from + width),
-        Verb::Delete => table(rt, asked, sheet, columns, 0, 0),
-        Verb::Modify => table(rt, asked, sheet, columns, 0, 0),
+    let empty = match question.change.verb {
+        Verb::Insert => shape.first..shape.first + shape.width,
+        Verb::Delete | Verb::Modify => 0..0,
+    };
+    match rows(sheet, shape.total) {
+        Some((first, second)) => table(rt, asked, first, second, empty),
+        None => Ok(()),
     }
 }

@@ -4,81 +4,36 @@
 
 mod contents;
 
-use files::{Started, Taken};
-use outcome::{Judged, Verdict};
-use printing::{line_end, text, words};
+use files::{Failure, Started};
+use outcome::Verdict;
 use std::io;
 use std::rt::{Env, Files};
 
-fn passes(
-    rt: &impl Print,
-    verdict: Verdict,
-    asked: u8,
-    question: &[u8],
-    sheet: &[u8],
-) -> io::Result<()> {
-    text(rt, b"passes ")?;
-    words::verdict(rt, verdict)?;
-    line_end(rt)?;
-    match verdict {
-        Verdict::Yes => Ok(()),
-        Verdict::No => contents::show(rt, asked, question, sheet),
+fn shown(rt: &impl Print, start: Started, sheet: &[u8]) -> io::Result<()> {
+    let Started { asked, question } = start;
+    match answers::check(asked.number(), question, sheet) {
+        Ok(verdict) => {
+            println!(rt; "passes {verdict}")?;
+            match verdict {
+                Verdict::Yes => Ok(()),
+                Verdict::No => contents::show(rt, asked, question, sheet),
+            }
+        }
+        Err(refusal) => println!(rt; "refused {refusal}: {}", refusal.fault),
     }
 }
 
-fn work(rt: &impl Print, asked: u8, question: &[u8], sheet: &[u8]) -> io::Result<()> {
-    let checked = answers::check(asked, question, sheet);
-    match checked {
-        Judged::Good(verdict) => passes(rt, verdict, asked, question, sheet),
-        Judged::Refused(number, place) => words::explained(rt, number, place),
-    }
-}
-
-// The sheet is the first n bytes of the room.
-fn with_room(rt: &impl Print, asked: u8, question: &[u8], room: &[u8], n: usize) -> io::Result<()> {
-    let start = 0;
-    if n <= room.len() {
-        work(rt, asked, question, &room[start..n])?;
-    }
-    Ok(())
-}
-
-fn with_question(
-    rt: &(impl Files + Env + Print),
-    told: &impl Print,
-    asked: u8,
-    question: &[u8],
-) -> io::Result<()> {
+fn work(rt: &(impl Files + Env + Print), told: &impl Print) -> Result<(), Failure> {
+    let mut bytes = [0u8; 4096];
+    let start = files::start(rt, told, &mut bytes)?;
     let mut room = files::room();
-    let taken = files::read_sheet(rt, told, &mut room)?;
-    match taken {
-        Taken::Whole(n) => with_room(rt, asked, question, &room, n),
-        Taken::Start => told.write_all(b"the sheet is longer than 1048576 bytes\n"),
-        Taken::Nothing => Ok(()),
-    }
-}
-
-// The question is the first n bytes.
-fn with_start(
-    rt: &(impl Files + Env + Print),
-    told: &impl Print,
-    asked: u8,
-    bytes: &[u8],
-    n: usize,
-) -> io::Result<()> {
-    let start = 0;
-    if n <= bytes.len() {
-        with_question(rt, told, asked, &bytes[start..n])?;
+    match files::read_sheet(rt, told, &mut room) {
+        Err(Failure::Longer) => told.println("the sheet is longer than 1048576 bytes")?,
+        taken => shown(rt, start, taken?)?,
     }
     Ok(())
 }
 
 fn main(rt: HostRuntime) -> io::Result<()> {
-    let told = rt.stderr();
-    let mut question = [0u8; 4096];
-    let started = files::start(&rt, &told, &mut question)?;
-    match started {
-        Started::Asks(asked, n) => with_start(&rt, &told, asked, &question, n),
-        Started::Wrong => Ok(()),
-    }
+    files::end(work(&rt, &rt.stderr()))
 }

@@ -2,26 +2,28 @@
 #![tactic(auto)]
 
 ghost use Rattle.std.specs.Prelude.{◌≡◌, cond, ◌+◌, ◌≤◌, ◌<◌, length};
-ghost use Rattle.page_numbers.specs.Outcome.{good, refused};
 ghost use Rattle.page_meaning.specs.Contents as meant;
 ghost use Rattle.page_meaning.specs.Limits.{most_columns, most_vertices};
-ghost use Rattle.question.specs.Held.{Held, question_of};
-ghost use Rattle.page_questions.specs.Guarantees.{Accepted};
+ghost use Rattle.question.specs.Held.{question_of, asked_of};
 ghost use Rattle.page_formulas.specs.Formulas.{formulas};
 ghost use Rattle.page_formulas.specs.Formulas as spec;
-ghost use Rattle.program.specs.Compiled.{Compiled, Fine, formula_of};
+ghost use Rattle.program.specs.Compiled.{Compiled, Fine};
 ghost use Rattle.page_sheets.specs.Rows as rows;
-ghost use Rattle.page_sheets.specs.Sheet.{say_no, no_end, check_rows, check_no};
+ghost use Rattle.page_sheets.specs.Sheet.{no_end, check_rows, check_no};
 ghost use Rattle.outcome.specs.Answers.{judged_of};
 
-use checker_rows::fields::{Reading, fields};
+use checker_rows::fields::fields;
 use checker_rows::formulas::formula_met;
 use checker_rows::layout::field_at;
 use formula::formulas::{formula_count, outline};
-use limits::{INSTRUCTIONS, PLACES};
-use outcome::{Judged, Verdict};
-use program::types::Outline;
-use question::types::Question;
+use outcome::Verdict;
+use program::types::Formula;
+use question::types::{Asked, Question};
+use refusal::{Fault, Refusal};
+use sights::terms::whole;
+
+// Where the formula's number stands: after the header.
+const NUMBER: usize = 7;
 
 // How many values the rows have, by whether there are two rows.
 fn value_count(total: usize, pairs: bool) -> usize
@@ -31,76 +33,53 @@ fn value_count(total: usize, pairs: bool) -> usize
     if pairs { total + total } else { total }
 }
 
-// After the values: a failing formula comes before bytes that are left.
-fn ending(met: bool, ended: bool) -> Judged
-    ensures { judged_of result ≡ cond met (cond ended (good say_no) (refused 16 0)) (refused 15 7) }
+// What a sheet comes to whose values, so many, may all stand there: a failing formula comes before bytes that are left.
+fn rows_end(f: &Formula, sheet: &[u8], count: usize) -> Result<Verdict, Refusal>
+    requires { Fine f.now × (count < most_vertices) × (rows.field_at count ≤ length sheet.now) }
+    ensures { (F : spec.Formula) (q : meant.Question) → Compiled f.now F → count ≡ rows.fields q F → judged_of result ≡ no_end q F sheet.now }
 {
-    if met {
-        if ended {
-            return Judged::Good(Verdict::No);
-        }
-        return Judged::Refused(16, 0);
+    if !formula_met(f, sheet, count) {
+        return Err(Refusal {
+            fault: Fault::SheetFalse,
+            place: NUMBER,
+        });
     }
-    Judged::Refused(15, 7)
-}
-
-// What a sheet comes to whose values, so many, may all stand there.
-fn rows_end(
-    kinds: &[u8],
-    left: &[u8],
-    right: &[u8],
-    most: &[i64],
-    o: Outline,
-    sheet: &[u8],
-    count: usize,
-) -> Judged
-    requires { Fine (formula_of kinds.now left.now right.now most.now o) × (count < most_vertices) × (rows.field_at count ≤ length sheet.now) }
-    ensures { (F : spec.Formula) (q : meant.Question) → Compiled (formula_of kinds.now left.now right.now most.now o) F → count ≡ rows.fields q F → judged_of result ≡ no_end q F sheet.now }
-{
-    let met = formula_met(kinds, left, right, most, o, sheet, count);
-    let ended = sheet.len() <= field_at(count);
-    ending(met, ended)
+    if field_at(count) < sheet.len() {
+        return Err(Refusal {
+            fault: Fault::SheetLong,
+            place: 0,
+        });
+    }
+    Ok(Verdict::No)
 }
 
 // The values from the first on, for formula i.
-fn formula_rows(
-    q: Question,
-    i: usize,
-    kinds: &[u8],
-    left: &[u8],
-    right: &[u8],
-    most: &[i64],
-    o: Outline,
-    sheet: &[u8],
-) -> Judged
-    requires { Held q × Fine (formula_of kinds.now left.now right.now most.now o) × (8 ≤ length sheet.now) }
-    ensures { (F : spec.Formula) → Compiled (formula_of kinds.now left.now right.now most.now o) F → judged_of result ≡ check_rows (question_of q) i F sheet.now }
+fn formula_rows(q: &Question, i: usize, f: &Formula, sheet: &[u8]) -> Result<Verdict, Refusal>
+    requires { Fine f.now × (8 ≤ length sheet.now) }
+    ensures { (F : spec.Formula) → Compiled f.now F → judged_of result ≡ check_rows (question_of q.now) i F sheet.now }
 {
-    let count = value_count(q.shape.total, o.pairs);
-    let reading = fields(q, i, sheet, count);
-    match reading {
-        Reading::Good => rows_end(kinds, left, right, most, o, sheet, count),
-        Reading::Refused(number, place) => Judged::Refused(number, place),
-    }
+    whole(q);
+    let count = value_count(q.shape.total, f.pairs);
+    fields(q, i, sheet, count)?;
+    rows_end(f, sheet, count)
 }
 
 // The formula's number, then its rows.
-pub fn no_sheet(q: Question, asked: u8, sheet: &[u8]) -> Judged
-    requires { Held q × Accepted (question_of q) }
-    ensures { judged_of result ≡ check_no (question_of q) (formulas (question_of q) asked) sheet.now }
+pub fn no_sheet(q: &Question, asked: Asked, sheet: &[u8]) -> Result<Verdict, Refusal>
+    ensures { judged_of result ≡ check_no (question_of q.now) (formulas (question_of q.now) (asked_of asked)) sheet.now }
 {
-    if sheet.len() < 8 {
-        return Judged::Refused(11, 7);
+    if sheet.len() <= NUMBER {
+        return Err(Refusal {
+            fault: Fault::SheetShort,
+            place: NUMBER,
+        });
     }
-    let i = sheet[7] as usize;
-    let n = formula_count(q, asked);
-    if n <= i {
-        return Judged::Refused(14, 7);
+    let i = sheet[NUMBER] as usize;
+    if formula_count(q, asked) <= i {
+        return Err(Refusal {
+            fault: Fault::SheetCode,
+            place: NUMBER,
+        });
     }
-    let mut kinds = [0u8; INSTRUCTIONS];
-    let mut left = [0u8; PLACES];
-    let mut right = [0u8; PLACES];
-    let mut most = [0i64; PLACES];
-    let o = outline(&mut kinds, &mut left, &mut right, &mut most, q, asked, i);
-    formula_rows(q, i, &kinds, &left, &right, &most, o, sheet)
+    formula_rows(q, i, &outline(q, asked, i), sheet)
 }

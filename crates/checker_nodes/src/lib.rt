@@ -1,123 +1,122 @@
 // FORMAT 8.2: the nodes of a case tree, one at a time, and what the checker says of each.
 #![tactic(auto)]
 
-ghost use Rattle.page_formulas.specs.Costs.{most_instructions};
-ghost use Rattle.std.specs.Prelude.{◌≡◌, ℕ, ◌+◌, ◌≤◌, ◌<◌, map, length, take, drop, pos};
+ghost use Rattle.std.specs.Prelude.{◌≡◌, ℕ, ◌+◌, ◌≤◌, ◌<◌, List, Option, None, is_some, map, length, get_or, drop, pos};
 ghost use Rattle.std.specs.Int.Signed.{lt_z};
-ghost use Rattle.page_meaning.specs.Limits.{most_vertices, most_decisions};
+ghost use Rattle.page_meaning.specs.Limits.{most_vertices};
+ghost use Rattle.page_walks.specs.Grid.{weight};
 ghost use Rattle.page_walks.specs.Walk.{Below, closed};
-ghost use Rattle.grid.specs.Facts.{with_fact};
-ghost use Rattle.page_walks.specs.Grid.{weight, far_n};
-ghost use Rattle.page_walks.specs.Sizes.{Sized, AllWithin};
-ghost use Rattle.truth.specs.Cells.{bit};
-ghost use Rattle.page_formulas.specs.Kinds.{known_kinds};
+ghost use Rattle.page_formulas.specs.Costs.{most_instructions};
 ghost use Rattle.page_formulas.specs.Formulas.{Formula};
+ghost use Rattle.page_formulas.specs.Kinds.{known_kinds};
 ghost use Rattle.page_sheets.specs.Tree.{false_node, cycle_node};
-ghost use Rattle.checker_nodes.specs.Nodes.{outcome_of, Named};
+ghost use Rattle.grid.specs.Facts.{with_fact};
 ghost use Rattle.program.specs.Lent.{Flagged};
+ghost use Rattle.program.specs.Meanings.{number_of};
+ghost use Rattle.checker_nodes.specs.Nodes.{outcome_of, Named, Checkable};
 
-use grid::Added;
-use limits::{PLACES, VERTICES};
-use truth::truths::Truth;
+use grid::{Edge, Grid};
+use limits::VERTICES;
+use program::types::{Instruction, Range};
+use refusal::{Fault, Refusal};
+use truth::truths::{Truth, known};
 
-// Where a tree, or a part of it, ends in the bytes that were lent; or the number that says no, and where.
-#[derive(Clone, Copy)]
-pub enum Past {
-    Good(usize),
-    Refused(u8, usize),
-}
+// A cycle passes each vertex once at most.
+const LONGEST: usize = VERTICES;
 
-// The vertices of a node 2: all there, or the first that is missing or that the formula lacks.
-#[derive(Clone, Copy)]
-pub enum Naming {
-    Good,
-    Refused(u8, usize),
-}
-
-// The first `count` bytes as vertices.
-fn named(shown: &[bool], bytes: &[u8], count: usize) -> Naming
-    ensures { Named shown.now count bytes.now result }
+fn shown(ranges: &[Option<Range>], vertex: u8) -> bool
+    ensures { result ≡ is_some (get_or ranges.now vertex None) }
 {
-    let mut i: usize = 0;
-    while i < count {
-        if bytes.len() <= i {
-            return Naming::Refused(11, i);
-        }
-        let v = bytes[i] as usize;
-        if shown.len() <= v {
-            return Naming::Refused(14, i);
-        }
-        if shown[v] {
-            i += 1;
-            continue;
-        }
-        return Naming::Refused(14, i);
+    match ranges.get(vertex as usize) {
+        Some(range) => range.is_some(),
+        None => false,
     }
-    Naming::Good
+}
+
+// So many bytes from `first` on are vertices that the formula has; or the first that isn't there, or that it lacks.
+fn named(ranges: &[Option<Range>], part: &[u8], first: usize, count: usize) -> Result<(), Refusal>
+    requires { first ≤ length part.now }
+    ensures { Named ranges.now part.now first count result }
+{
+    for i in 0..count {
+        let place = first + i;
+        if part.len() <= place {
+            return Err(Refusal {
+                fault: Fault::SheetShort,
+                place,
+            });
+        }
+        if !shown(ranges, part[place]) {
+            return Err(Refusal {
+                fault: Fault::SheetCode,
+                place,
+            });
+        }
+    }
+    Ok(())
 }
 
 // Node 1: the formula is false by what was decided.
 pub fn false_leaf(
-    kinds: &[u8],
-    truths: [u8; PLACES],
-    decided: usize,
-    part: &[u8],
+    instructions: &[Instruction],
+    truths: &[bool],
     at: usize,
-) -> Past
-    requires { (length kinds.now ≤ most_instructions) × (decided ≤ most_decisions) × (at < length part.now) }
-    ensures { (base : ℕ) → outcome_of base part.now result ≡ false_node (known_kinds kinds.now (map bit (take decided truths))) (base + at) (drop (at + 1) part.now) }
+) -> Result<usize, Refusal>
+    requires { (length instructions.now ≤ most_instructions) × (at < usize.MAX) }
+    ensures { (base : ℕ) (part : List ℕ) → outcome_of base part result ≡ false_node (known_kinds (map number_of instructions.now) truths.now) (base + at) (drop (at + 1) part) }
 {
-    let t = truth::truths::known(kinds, &truths[..decided]);
-    match t {
-        Truth::Fails => Past::Good(at + 1),
-        Truth::Passes => Past::Refused(15, at),
-        Truth::Open => Past::Refused(15, at),
+    match known(instructions, truths) {
+        Truth::Fails => Ok(at + 1),
+        Truth::Open | Truth::Passes => Err(Refusal {
+            fault: Fault::SheetFalse,
+            place: at,
+        }),
     }
 }
 
 // Following the edges and back to the first gives a sum below zero.
-fn below_zero(g: &[[i64; VERTICES]; VERTICES], e: Added, vertices: &[u8]) -> bool
-    requires vertices_nonzero { (0 < length vertices.now) × (length vertices.now ≤ most_vertices) × Below most_vertices vertices.now }
-    requires sized { Sized most_vertices g.now × AllWithin far_n most_vertices (with_fact g.now e) × (e.from < most_vertices) × (e.to < most_vertices) }
-    ensures { result ≡ lt_z (closed (weight (with_fact g.now e)) vertices.now) (pos 0) }
+fn below_zero(g: &Grid, last: Edge, vertices: &[u8]) -> bool
+    requires walk { (0 < length vertices.now) × (length vertices.now ≤ most_vertices) × Below most_vertices vertices.now }
+    requires checkable { Checkable g.now.rows last }
+    ensures { result ≡ lt_z (closed (weight (with_fact g.now.rows last)) vertices.now) (pos 0) }
 {
-    let sum = grid::closing(g, e, vertices);
-    sum < 0
+    g.closing(last, vertices) < 0
 }
 
 // Node 2: a count from 1 on, and so many vertices. The last fact of the way down stands beside the grid.
 pub fn cycle(
-    shown: &[bool],
-    g: &[[i64; VERTICES]; VERTICES],
-    e: Added,
+    ranges: &[Option<Range>],
+    g: &Grid,
+    last: Edge,
     part: &[u8],
     at: usize,
-) -> Past
-    requires shown_len_bound { (length shown.now ≤ most_vertices) × (at < length part.now) }
-    requires sized { Sized most_vertices g.now × AllWithin far_n most_vertices (with_fact g.now e) × (e.from < most_vertices) × (e.to < most_vertices) }
-    ensures { (F : Formula) (base : ℕ) → Flagged shown.now F.ranges → outcome_of base part.now result ≡ cycle_node most_vertices F (with_fact g.now e) (base + at) (drop (at + 1) part.now) }
+) -> Result<usize, Refusal>
+    requires few { (length ranges.now ≤ most_vertices) × (at < length part.now) }
+    requires checkable { Checkable g.now.rows last }
+    ensures { (F : Formula) (base : ℕ) → Flagged ranges.now F.ranges → outcome_of base part.now result ≡ cycle_node most_vertices F (with_fact g.now.rows last) (base + at) (drop (at + 1) part.now) }
 {
     let from = at + 1;
     if part.len() <= from {
-        return Past::Refused(11, from);
+        return Err(Refusal {
+            fault: Fault::SheetShort,
+            place: from,
+        });
     }
     let count = part[from] as usize;
-    if count == 0 {
-        return Past::Refused(14, from);
-    }
-    if VERTICES < count {
-        return Past::Refused(14, from);
+    if count == 0 || LONGEST < count {
+        return Err(Refusal {
+            fault: Fault::SheetCode,
+            place: from,
+        });
     }
     let first = from + 1;
-    let bytes = &part[first..];
-    let found = named(shown, bytes, count);
-    match found {
-        Naming::Good => {
-            if below_zero(g, e, &bytes[..count]) {
-                return Past::Good(first + count);
-            }
-            Past::Refused(15, at)
-        }
-        Naming::Refused(number, p) => Past::Refused(number, first + p),
+    named(ranges, part, first, count)?;
+    let end = first + count;
+    if below_zero(g, last, &part[first..end]) {
+        return Ok(end);
     }
+    Err(Refusal {
+        fault: Fault::SheetFalse,
+        place: at,
+    })
 }

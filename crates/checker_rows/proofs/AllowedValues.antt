@@ -1,7 +1,7 @@
 -- The inserted value that a column must have, as the declared question holds it; and a column's range.
 use Prim.Native.Nat.{ℕ, ◌<◌}
 use mathlib.Core.Path.{◌≡◌, sym, ap, ◌∙◌}
-use mathlib.Core.Bool.{Bool, true, false, ◌&&◌, ◌||◌, not}
+use mathlib.Core.Bool.{Bool, true, false, ◌&&◌}
 use lib.ListN.{get_or, take, get_or-map}
 use lib.Seq.{get_or-take}
 use lib.IntN.{ℤ}
@@ -25,9 +25,3 @@ and_so a b e = rw e
 
 pub and_not : (a b : Bool) → a ≡ false → false ≡ (a && b)
 and_not a b e = rw e
-
-pub shown_so : (v b : Bool) → v ≡ true → b ≡ (not v || b)
-shown_so v b e = rw e
-
-pub hidden_so : (v b : Bool) → v ≡ false → true ≡ (not v || b)
-hidden_so v b e = rw e

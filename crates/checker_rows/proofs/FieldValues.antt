@@ -14,11 +14,11 @@ use mir.Syntax.{w32, w64}
 use mir.Val.{SFits}
 use Rattle.page_numbers.proofs.Machine.{machine, of_fits}
 use Rattle.page_walks.specs.Sizes.{Bounded, least_weight}
-use Rattle.truth.specs.Cells.{bit}
+use Rattle.program.specs.declared.types.Place.{Place}
 use Rattle.page_meaning.specs.Contents.{Question}
 use Rattle.page_formulas.specs.Formulas.{Formula, tabulate}
 use Rattle.page_sheets.specs.Rows.{width, fields, value_at, read_values}
-use Rattle.checker_rows.specs.NoSheet.{seen, AllInt32, test_at}
+use Rattle.checker_rows.specs.NoSheet.{seen, test_at}
 use Rattle.page_sheets.proofs.Values.{tabulate_same}
 
 -- ---- the array of values
@@ -31,19 +31,6 @@ get_or_zeros (suc n) (suc v) = get_or_zeros n v
 pub seen_none : (n : ℕ) (s : List ℕ) (v : ℕ) → get_or (replicate n (pos 0)) v (pos 0) ≡ seen s 0 v
 seen_none n s zero = get_or_zeros n 0
 seen_none n s (suc j) = get_or_zeros n (suc j) ∙ sym (ap (λ b. cond b (value_at s j) (pos 0)) (le-ltb j 0 (omega arith)))
-
-set_keeps : (P : ℤ → Type 0) (x : List ℤ) (i : ℕ) (z : ℤ) → P z → ((v : ℕ) → P (get_or x v (pos 0))) → (v : ℕ) → P (get_or (set x i z) v (pos 0))
-set_keeps P [] i z h k v = k v
-set_keeps P (a ∷ x) zero z h k zero = h
-set_keeps P (a ∷ x) zero z h k (suc v) = k (suc v)
-set_keeps P (a ∷ x) (suc i) z h k zero = k 0
-set_keeps P (a ∷ x) (suc i) z h k (suc v) = set_keeps P x i z h (λ u. k (suc u)) v
-
-pub small_none : (n : ℕ) → AllInt32 (replicate n (pos 0))
-small_none n = record { each = λ v. rw (get_or_zeros n v) (record { high = omega arith; low = omega arith }) }
-
-pub small_more : (x : List ℤ) (i : ℕ) (z : ℤ) → AllInt32 x → SFits w32 z → AllInt32 (set x i z)
-small_more x i z h f = record { each = set_keeps (Bounded 2147483648) x i z (record { high = omega (arith, of_fits f); low = omega (arith, of_fits f) }) h.each }
 
 -- one more field
 pub seen_more : (s : List ℕ) (x : List ℤ) (j : ℕ) → j + 1 < length x → ((v : ℕ) → get_or x v (pos 0) ≡ seen s j v) → (v : ℕ) → get_or (set x (j + 1) (value_at s j)) v (pos 0) ≡ seen s (j + 1) v
@@ -96,13 +83,16 @@ seen_read q F s (suc j) = go F.pairs
 
 -- ---- the places
 
-pub sum_fits : (y k : ℤ) → Bounded 2147483648 y → Bounded least_weight k → SFits w64 (y +ℤ k)
-sum_fits y k a b = omega (arith, machine, a.high, a.low, b.high, b.low)
+pub wide_fits : (x : ℤ) → SFits w32 x → SFits w64 x
+wide_fits x f = omega (arith, machine, of_fits f)
+
+pub sum_fits : (y k : ℤ) → SFits w32 y → Bounded least_weight k → SFits w64 (y +ℤ k)
+sum_fits y k a b = omega (arith, machine, of_fits a, b.high, b.low)
 
 -- one more place
-pub tested_more : (x : List ℤ) (ls rs : List ℕ) (ms : List ℤ) (t : List ℕ) (i v : ℕ) → i < length t → ((k : ℕ) → k < i → bit (get_or t k 0) ≡ test_at x ls rs ms k) → bit v ≡ test_at x ls rs ms i → (k : ℕ) → k < i + 1 → bit (get_or (set t i v) k 0) ≡ test_at x ls rs ms k
-tested_more x ls rs ms t i v l h e k b = go (eqb k i) refl
+pub tested_more : (x : List ℤ) (ps : List Place) (t : List Bool) (i : ℕ) (v : Bool) → i < length t → ((k : ℕ) → k < i → get_or t k false ≡ test_at x ps k) → v ≡ test_at x ps i → (k : ℕ) → k < i + 1 → get_or (set t i v) k false ≡ test_at x ps k
+tested_more x ps t i v l h e k b = go (eqb k i) refl
   where
-    go : (c : Bool) → eqb k i ≡ c → bit (get_or (set t i v) k 0) ≡ test_at x ls rs ms k
-    go true c = let d : k ≡ i = eqb-true k i c in rw d (ap bit (get_or-set_same t i v 0 l) ∙ e)
-    go false c = ap bit (get_or-set_other t i k v 0 (eqb-false k i c)) ∙ h k (omega (arith, eqb-false k i c))
+    go : (c : Bool) → eqb k i ≡ c → get_or (set t i v) k false ≡ test_at x ps k
+    go true c = let d : k ≡ i = eqb-true k i c in rw d (get_or-set_same t i v false l ∙ e)
+    go false c = get_or-set_other t i k v false (eqb-false k i c) ∙ h k (omega (arith, eqb-false k i c))

@@ -6,17 +6,19 @@ use mathlib.Core.List.{List, [], ◌∷◌, map}
 use native.Mathlib.Omega.{arith}
 use lib.IntN.{ℤ, pos, ◌+ℤ◌}
 use lib.Signed.{le_z}
-use lib.ListN.{length, get_or, take, length-map, get_or-map}
+use lib.ListN.{length, get_or, take}
 use lib.Seq.{get_or-take, length-take-le}
 use Rattle.page_meaning.specs.Limits.{most_decisions}
-use Rattle.truth.specs.Cells.{bit}
 use Rattle.page_formulas.specs.Program.{Values, Place, test, truth, places}
 use Rattle.page_formulas.specs.Kinds.{nowhere, known_kinds}
 use Rattle.page_formulas.specs.Knowledge.{Three, fails, passes, open?, known}
 use Rattle.page_formulas.specs.Formulas.{Formula}
 use Rattle.page_formulas.specs.Truths.{Agrees, Says, Sure}
 use Rattle.page_formulas.proofs.Truths.{known_says, known_sure, known_kinds_lem}
-use Rattle.program.specs.Lent.{Lent}
+use Rattle.program.specs.Lent.{Lent, place_at}
+use Rattle.program.specs.Meanings.{number_of}
+use Rattle.program.specs.declared.types.Instruction.{Instruction}
+use Rattle.program.specs.declared.types.Place as compiled
 use Rattle.checker_rows.specs.NoSheet.{test_at, Tested}
 use Rattle.program.proofs.Loans.{lent_length, lent_place}
 
@@ -36,20 +38,20 @@ settled fails b h s = h
 settled passes b h s = h
 settled open? b h s = s
 
-module _ (F : Formula) (ks ls rs : List ℕ) (ms : List ℤ) (lent : Lent F.program ks ls rs ms) (x : Values) (vals : List ℤ) (same : (v : ℕ) → get_or vals v (pos 0) ≡ x v) (truths : List ℕ) (tested : Tested vals ls rs ms truths) (few : length ls ≤ most_decisions) where
+module _ (F : Formula) (ks : List Instruction) (ps : List compiled.Place) (lent : Lent F.program ks ps) (x : Values) (vals : List ℤ) (same : (v : ℕ) → get_or vals v (pos 0) ≡ x v) (truths : List Bool) (tested : Tested vals ps truths) (few : length ps ≤ most_decisions) where
   abbrev ds : List Bool
-  ds = map bit (take (length ls) truths)
+  ds = take (length ps) truths
 
-  test_is : (i : ℕ) → test_at vals ls rs ms i ≡ test x (get_or (places F.program) i nowhere)
-  test_is i = ap₂ (λ a b. le_z a (b +ℤ get_or ms i (pos 0))) (same (get_or ls i 0)) (same (get_or rs i 0)) ∙ ap (test x) (lent_place F.program ks ls rs ms lent i)
+  test_is : (i : ℕ) → test_at vals ps i ≡ test x (get_or (places F.program) i nowhere)
+  test_is i = ap₂ (λ a b. le_z a (b +ℤ (place_at ps i).most)) (same (place_at ps i).left) (same (place_at ps i).right) ∙ ap (test x) (lent_place F.program ks ps lent i)
 
   decided : (i : ℕ) → i < length (places F.program) → test x (get_or (places F.program) i nowhere) ≡ get_or ds i false
   decided i h =
-      let l : i < length ls = omega (arith, lent_length F.program ks ls rs ms lent) in
-      sym (get_or-map bit (take (length ls) truths) i 0 ∙ ap bit (get_or-take (length ls) truths i 0 l) ∙ tested.each i l ∙ test_is i)
+      let l : i < length ps = omega (arith, lent_length F.program ks ps lent) in
+      sym (get_or-take (length ps) truths i false l ∙ tested.each i l ∙ test_is i)
 
-  pub met_settles : (t : Three) → t ≡ known_kinds ks ds → Settles t (truth x F.program)
+  pub met_settles : (t : Three) → t ≡ known_kinds (map number_of ks) ds → Settles t (truth x F.program)
   met_settles t e =
-      let k : t ≡ known F.program ds = e ∙ ap (λ k. known_kinds k ds) lent.kinds ∙ sym (known_kinds_lem F.program ds) in
-      let long : length (places F.program) ≤ length ds = omega (arith, lent_length F.program ks ls rs ms lent, length-map (take (length ls) truths) bit, length-take-le (length ls) truths (omega (arith, tested.long))) in
+      let k : t ≡ known F.program ds = e ∙ ap (λ k. known_kinds k ds) lent.instructions ∙ sym (known_kinds_lem F.program ds) in
+      let long : length (places F.program) ≤ length ds = omega (arith, lent_length F.program ks ps lent, length-take-le (length ps) truths (omega (arith, tested.long))) in
       rw k (settled (known F.program ds) (truth x F.program) (known_says x F.program ds (agrees_by x (places F.program) ds decided)) (known_sure F.program ds long))

@@ -8,30 +8,27 @@ ghost use Rattle.checker_rows.specs.NoSheet.{FieldsRead};
 use crate::allowances::field_allows;
 use crate::layout::field_at;
 use question::types::Question;
+use refusal::{Fault, Refusal};
 
-// Every field is there and its value may stand in it; or the first that is not so.
-#[derive(Clone, Copy)]
-pub enum Reading {
-    Good,
-    Refused(u8, usize),
-}
-
-// The first `count` fields.
-pub fn fields(q: Question, i: usize, sheet: &[u8], count: usize) -> Reading
-    requires { Whole q × (count ≤ q.shape.total + q.shape.total) × (8 ≤ length sheet.now) }
-    ensures { FieldsRead (field_ok (question_of q) i sheet.now) sheet.now count result }
+// Each of the first `count` fields is there, and its value may stand in it; or the first that is not so.
+pub fn fields(q: &Question, i: usize, sheet: &[u8], count: usize) -> Result<(), Refusal>
+    requires { Whole q.now × (count ≤ q.now.shape.total + q.now.shape.total) × (8 ≤ length sheet.now) }
+    ensures { FieldsRead (field_ok (question_of q.now) i sheet.now) sheet.now count result }
 {
-    let mut j: usize = 0;
-    while j < count {
-        let at = field_at(j);
-        if sheet.len() < at + 4 {
-            return Reading::Refused(11, at);
+    for j in 0..count {
+        let place = field_at(j);
+        if sheet.len() < place + 4 {
+            return Err(Refusal {
+                fault: Fault::SheetShort,
+                place,
+            });
         }
-        if field_allows(q, i, sheet, j) {
-            j += 1;
-            continue;
+        if !field_allows(q, i, sheet, j) {
+            return Err(Refusal {
+                fault: Fault::SheetFalse,
+                place,
+            });
         }
-        return Reading::Refused(15, at);
     }
-    Reading::Good
+    Ok(())
 }

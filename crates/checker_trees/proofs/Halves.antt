@@ -1,84 +1,68 @@
 -- A half of a node 3 over plain values: what the code hands down to its tree, and what that tree's outcome says of the node.
-use Prim.Native.Nat.{ℕ, ◌+◌, ◌-◌, ◌≤◌, ◌<◌}
-use mathlib.Core.Path.{◌≡◌, sym, ap, ap₂, subst, ◌∙◌}
-use mathlib.Core.Bool.{Bool, true, false}
-use mathlib.Core.List.{List}
-use native.Mathlib.Omega.{arith}
-use lib.IntN.{ℤ, pos}
-use lib.ListN.{length, get_or, set, drop}
-use mir.Syntax.{w64}
-use mir.Val.{SFits, to_z, of_z}
-use mir.Facts.{to_z-of_z}
-use Rattle.page_numbers.proofs.Machine.{machine}
+use Rattle.std.proofs.Common.{ℕ, ◌+◌, ◌<◌, ◌≡◌, Bool, true, false, List, length, get_or, take, set, drop, sym, ap, ap₂, subst, ◌∙◌, arith}
+use lib.Seq.{get_or-take}
 use Rattle.page_meaning.specs.Limits.{most_vertices}
-use Rattle.page_walks.specs.Grid.{Grid, far_n, tighten}
-use Rattle.page_walks.specs.Sizes.{Sized, AllWithin}
-use Rattle.page_walks.proofs.Grids.{tighten_sized}
-use Rattle.page_walks.proofs.Rounds.{below_at}
-use Rattle.page_formulas.specs.Program.{Place}
-use Rattle.page_formulas.specs.Formulas.{Formula}
+use Rattle.page_walks.specs.Grid.{Grid, far_n}
+use Rattle.page_walks.specs.Sizes.{least_weight, Bounded, AllWithin}
+use Rattle.page_formulas.specs.Program as P
+use Rattle.page_formulas.specs.Formulas as spec
+use Rattle.page_formulas.specs.Kinds.{nowhere}
 use Rattle.page_sheets.specs.Facts.{decide}
 use Rattle.page_sheets.specs.Tree.{Checked}
 use Rattle.page_sheets.proofs.Bounds.{decide_within}
 use Rattle.grid.specs.Facts.{with_fact}
-use Rattle.grid.specs.declared.Added.{Added}
+use Rattle.grid.specs.declared.Edge.{Edge}
 use Rattle.facts.specs.Decisions.{fact_of}
-use Rattle.program.specs.Lent.{Lendable, place_at}
-use Rattle.checker_trees.specs.Checks.{check_left, Checkable}
+use Rattle.program.specs.Compiled.{Compiled, Fine}
+use Rattle.program.specs.Meanings.{place_of, places_of, no_place}
+use Rattle.program.specs.Lent.{Places}
+use Rattle.program.specs.declared.types.Formula.{Formula}
+use Rattle.program.proofs.Loans.{placed_of, places_long, lent_of, lent_place}
+use Rattle.checker_nodes.specs.Nodes.{Checkable}
+use Rattle.checker_trees.specs.Checks.{check_from, Reached}
 use Rattle.checker_trees.specs.declared.trees.Stage.{Stage}
 
-module _ (kinds left right : List ℕ) (most : List ℤ) (shown : List Bool) (lendable : Lendable kinds left right most shown) (g : Grid) (stage : Stage) (few : stage.todo ≤ length left) (some : 0 < stage.todo) (ready : Checkable g stage.fact) (fits : SFits w64 stage.fact.weight) where
-  -- the place that is decided
-  abbrev here : ℕ
-  here = length left - stage.todo
+-- the place that is decided next
+abbrev pub next_place : Formula → ℕ → P.Place
+next_place f n = place_of (get_or f.program.places n no_place)
 
-  abbrev place : Place
-  place = place_at left right most here
+module _ (f : Formula) (fine : Fine f) (n : ℕ) (some : n < f.program.decisions) where
+  used : n < length (places_of f.program)
+  used = omega (arith, places_long fine.is.program)
 
-  inside : here < length left
-  inside = omega (arith, few, some)
+  its_places : Places (places_of f.program)
+  its_places = placed_of f fine.formula fine.is fine.proper
 
-  most_fits : SFits w64 (get_or most here (pos 0))
-  most_fits = let b = lendable.places.small here (omega (arith, inside, lendable.places.mosts)) in omega (arith, machine, b.high, b.low)
+  same : get_or (places_of f.program) n no_place ≡ get_or f.program.places n no_place
+  same = get_or-take f.program.decisions f.program.places n no_place some
 
-  ends : (d : Bool) → ((fact_of place d).from < most_vertices) × ((fact_of place d).to < most_vertices)
-  ends d = go d
-    where
-      left_end : place.left < most_vertices
-      left_end = below_at most_vertices left here lendable.places.left_below inside
+  small_most : Bounded least_weight (next_place f n).most
+  small_most = subst (λ p. Bounded least_weight p.most) same (its_places.small n used)
 
-      right_end : place.right < most_vertices
-      right_end = below_at most_vertices right here lendable.places.right_below (omega (arith, lendable.places.rights, inside))
+  ends : (d : Bool) → ((fact_of (next_place f n) d).from < most_vertices) × ((fact_of (next_place f n) d).to < most_vertices)
+  ends d =
+      let l : (next_place f n).left < most_vertices = rw same at (its_places.left_below n used) in
+      let r : (next_place f n).right < most_vertices = rw same at (its_places.right_below n used) in
+      elim d as (λ x. ((fact_of (next_place f n) x).from < most_vertices) × ((fact_of (next_place f n) x).to < most_vertices)) [ true ↦ (r, l) | false ↦ (l, r) ]
 
-      go : (d : Bool) → ((fact_of place d).from < most_vertices) × ((fact_of place d).to < most_vertices)
-      go true = (right_end, left_end)
-      go false = (left_end, right_end)
+pub place_is : (f : Formula) (F : spec.Formula) → Compiled f F → (n : ℕ) → n < f.program.decisions → next_place f n ≡ get_or (P.places F.program) n nowhere
+place_is f F c n some = ap place_of (sym (get_or-take f.program.decisions f.program.places n no_place some)) ∙ lent_place F.program _ _ (lent_of f F c) n
 
-  module _ (facts : Grid) (facts_given : facts ≡ tighten g stage.fact.from stage.fact.to (to_z w64 (of_z w64 stage.fact.weight))) (d : Bool) (added : Added) (added_given : added ≡ fact_of (record { left = get_or left here 0; right = get_or right here 0; most = to_z w64 (of_z w64 (get_or most here (pos 0))) }) d) (next : Stage) where
-    -- the grid with the last fact
-    facts_are : facts ≡ with_fact g stage.fact
-    facts_are = facts_given ∙ ap (tighten g stage.fact.from stage.fact.to) (to_z-of_z {w = w64} fits)
+-- the stage after one decision more
+abbrev pub decided : Formula → Stage → Bool → ℕ → Stage
+decided f s d at = record { at = at; truths = set s.truths s.decided d; decided = s.decided + 1; last = fact_of (next_place f s.decided) d }
 
-    added_is : added ≡ fact_of place d
-    added_is = added_given ∙ ap (λ (k : ℤ). fact_of (record { left = get_or left here 0; right = get_or right here 0; most = k }) d) (to_z-of_z {w = w64} most_fits)
+module _ (f : Formula) (fine : Fine f) (g : Grid) (s : Stage) (reached : Reached f g s) (some : s.decided < f.program.decisions) (facts : Grid) (facts_are : facts ≡ with_fact g s.last) (d : Bool) (at : ℕ) (next : Stage) (is : next ≡ decided f s d at) where
+  pub half_reached : Reached f facts next
+  half_reached = rw (is, facts_are) (record {
+    few = omega arith;
+    checkable = record {
+      small = decide_within most_vertices (with_fact g s.last) (next_place f s.decided) d reached.checkable.small (small_most f fine s.decided some);
+      from_is = (ends f fine s.decided some d).0;
+      to_is = (ends f fine s.decided some d).1;
+    };
+  })
 
-    pub half_less : next.todo ≡ stage.todo - 1 → next.todo + next.todo + 1 < stage.todo + stage.todo
-    half_less e = omega (arith, e, some)
-
-    pub half_ready : next.todo ≡ stage.todo - 1 → next.fact ≡ added → (next.todo ≤ length left) × Checkable facts next.fact
-    half_ready e f =
-        let its_fact : next.fact ≡ fact_of place d = f ∙ added_is in (
-          omega (arith, e, few),
-          record {
-            sized = subst (Sized most_vertices) (sym facts_are) (tighten_sized most_vertices g _ _ _ ready.sized);
-            small = subst (AllWithin far_n most_vertices) (sym (ap₂ with_fact facts_are its_fact)) (decide_within most_vertices (with_fact g stage.fact) place d ready.small (lendable.places.small here (omega (arith, lendable.places.mosts, inside))));
-            from_is = subst (λ (e : Added). e.from < most_vertices) (sym its_fact) (ends d).0;
-            to_is = subst (λ (e : Added). e.to < most_vertices) (sym its_fact) (ends d).1;
-          },
-        )
-
-    -- what a half's tree came to
-    pub half_says : (at v : ℕ) → next ≡ record { at = at; truths = set stage.truths here v; todo = stage.todo - 1; fact = added } → (part : List ℕ) (F : Formula) (base : ℕ) (r : Checked) → r ≡ check_left F next.todo next.truths (with_fact facts next.fact) (base + next.at) (drop next.at part) → r ≡ check_left F (stage.todo - 1) (set stage.truths here v) (decide (with_fact g stage.fact) place d) (base + at) (drop at part)
-    half_says at v e part F base r h =
-        let n : next ≡ record { at = at; truths = set stage.truths here v; todo = stage.todo - 1; fact = fact_of place d } = e ∙ ap (λ (x : Added). record { at = at; truths = set stage.truths here v; todo = stage.todo - 1; fact = x }) added_is in
-        h ∙ ap₂ (λ (x : Stage) (h : Grid). check_left F x.todo x.truths (with_fact h x.fact) (base + x.at) (drop x.at part)) n facts_are
+  -- what a half's tree came to
+  pub half_says : (part : List ℕ) (F : spec.Formula) (base : ℕ) (r : Checked) → Compiled f F → r ≡ check_from F next.decided next.truths (with_fact facts next.last) (base + next.at) (drop next.at part) → r ≡ check_from F (s.decided + 1) (set s.truths s.decided d) (decide (with_fact g s.last) (get_or (P.places F.program) s.decided nowhere) d) (base + at) (drop at part)
+  half_says part F base r c h = rw (is, facts_are, place_is f F c s.decided some) at h

@@ -1,41 +1,31 @@
 -- The trees of a yes sheet one by one: what the rest makes from formula i on, at a position, is what the whole makes.
-use Prim.Native.Nat.{ℕ, suc, ◌+◌, ◌≤◌, ◌<◌}
-use mathlib.Core.Path.{◌≡◌, sym, ap, subst, ◌∙◌}
-use mathlib.Core.List.{List, []}
-use native.Mathlib.Numerals.{add-one}
-use native.Mathlib.Omega.{arith}
-use lib.ListN.{length, drop, length-append, drop_of_length-le}
+use Rattle.std.proofs.Common.{ℕ, suc, ◌+◌, ◌≤◌, ◌<◌, ◌≡◌, List, [], length, drop, sym, ap, subst, ◌∙◌, add-one, length-append, arith}
+use Rattle.std.proofs.lemmas.List.{drop_all}
 use lib.Seq.{drop-cons, drop-drop}
 use Rattle.page_numbers.specs.Outcome.{good, refused}
 use Rattle.page_meaning.specs.Limits.{most_vertices}
 use Rattle.page_formulas.specs.Formulas.{Formula, no_formula}
-use Rattle.formula.specs.Formulas.{formula_at}
 use Rattle.page_formulas.specs.Program.{places}
-use Rattle.checker_nodes.specs.declared.Past.{Past}
-use Rattle.checker_nodes.specs.declared.Past.TheVariants.{Good, Refused}
 use Rattle.page_sheets.specs.Facts.{start}
 use Rattle.page_sheets.specs.Tree.{Checked, and_then, check_tree}
 use Rattle.page_sheets.specs.Trees.{check_trees}
 use Rattle.page_sheets.specs.Sheet.{Answer, say_yes, yes_end}
-use Rattle.checker_nodes.specs.Nodes.{outcome_of}
-use Rattle.page_sheets.proofs.Remainders.{HandsOn, check_hands}
 use Rattle.page_sheets.proofs.Positions.{trees_next, trees_end}
+use Rattle.page_sheets.proofs.Remainders.{HandsOn, check_hands}
+use Rattle.formula.specs.Formulas.{formula_at}
 
--- ---- a tree ends, or is refused, within the part that was lent
+-- a tree ends, or is refused, within the part that was lent
+module _ (F : Formula) (base : ℕ) (part : List ℕ) (p : ℕ) where
+  hands : (x : Checked) → x ≡ check_tree most_vertices F base part → HandsOn base part x
+  hands x e = subst (HandsOn base part) (sym e) (check_hands most_vertices F (places F.program) [] (start most_vertices F.ranges) base part)
 
-abbrev pub Inside : ℕ → Past → Type 0
-Inside long (Good p) = p ≤ long
-Inside long (Refused n p) = p ≤ long
+  pub ends_inside : good (base + p, drop p part) ≡ check_tree most_vertices F base part → p ≤ length part
+  ends_inside e = let h = hands (good (base + p, drop p part)) e in omega (arith, h.2, ap length h.1, length-append h.0 (drop p part))
 
-pub past_inside : (F : Formula) (base : ℕ) (part : List ℕ) (r : Past) → outcome_of base part r ≡ check_tree most_vertices F base part → Inside (length part) r
-past_inside F base part r e = go r (subst (HandsOn base part) (sym e) (check_hands most_vertices F (places F.program) [] (start most_vertices F.ranges) base part))
-  where
-    go : (r : Past) → HandsOn base part (outcome_of base part r) → Inside (length part) r
-    go (Good p) h = omega (arith, h.2, ap length h.1, length-append h.0 (drop p part))
-    go (Refused n p) h = omega (arith, h.1)
+  pub refused_inside : (n : ℕ) → refused n (base + p) ≡ check_tree most_vertices F base part → p ≤ length part
+  refused_inside n e = omega (arith, (hands (refused n (base + p)) e).1)
 
--- ---- from formula i on, at a position of the sheet
-
+-- from formula i on, at a position of the sheet
 module _ (Fs : List Formula) (s : List ℕ) (i at : ℕ) where
   abbrev pub left : Answer
   left = yes_end (check_trees most_vertices (drop i Fs) at (drop at s))
@@ -50,7 +40,7 @@ module _ (Fs : List Formula) (s : List ℕ) (i at : ℕ) where
   trees_left h l = ap yes_end (trees_end most_vertices Fs i h at (drop at s)) ∙ rw (drop-cons s at 0 l)
 
   pub trees_done : length Fs ≤ i → length s ≤ at → left ≡ good say_yes
-  trees_done h l = ap yes_end (trees_end most_vertices Fs i h at (drop at s)) ∙ rw (drop_of_length-le s l)
+  trees_done h l = ap yes_end (trees_end most_vertices Fs i h at (drop at s)) ∙ rw (drop_all at s l)
 
 -- one tree more
 pub tree_good : (Fs : List Formula) (s : List ℕ) (i at p : ℕ) → i < length Fs → good (at + p, drop p (drop at s)) ≡ check_tree most_vertices (formula_at Fs i) at (drop at s) → left Fs s i at ≡ left Fs s (i + 1) (at + p)

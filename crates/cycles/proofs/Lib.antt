@@ -1,3 +1,2 @@
-pub mod Firsts
 pub mod TracedLists
-pub mod Answers
+pub mod Openings

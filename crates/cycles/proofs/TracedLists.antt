@@ -8,12 +8,16 @@ use lib.ListN.{length, get_or, set, take, length-set}
 use lib.Seq.{take-suc-set}
 use lib.IntN.{ℤ, pos, ◌+ℤ◌}
 use lib.Signed.{◌<ℤ◌, lt_z}
+use borrow.Author.Rules.{rules}
+use Rattle.std.specs.Prelude.{Option, Some, None, IsSome}
 use Rattle.page_numbers.proofs.Bridge.{ints, +law}
 use Rattle.page_meaning.specs.Limits.{most_vertices}
 use Rattle.page_walks.specs.Grid.{Grid, row, weight, far_n}
-use Rattle.page_walks.specs.Sizes.{Bounded, AllWithin, Sized}
+use Rattle.page_walks.specs.Sizes.{Bounded, Sized}
 use Rattle.page_walks.specs.Search.{first, best, test, greedy}
+use Rattle.grid.specs.Edges.{Summable}
 use Rattle.sums.specs.SumsBack.{Back}
+use Rattle.cycles.specs.Firsts.{FirstIs}
 use Rattle.page_walks.proofs.Search.{step}
 use Rattle.page_walks.proofs.Rows.{read}
 use Rattle.page_walks.proofs.Sums.{bounded_more, bounded_plus}
@@ -27,18 +31,18 @@ pub record Traced (g : Grid) (n s count i : ℕ) (vertices : List ℕ) (at : ℕ
   pub negative : (sum +ℤ best (weight g) (n - 1) (count - i) s at) <ℤ pos 0
   pub list : take i vertices ++ greedy (weight g) (n - 1) (count - i) s sum at ≡ s ∷ greedy (weight g) (n - 1) (count - 1) s (pos 0) s
 
-module _ (g : Grid) (n s count : ℕ) (hn : (0 < n) × (n ≤ most_vertices) × (s < n) × (0 < count) × (count ≤ n)) (all : AllWithin far_n n g) where
+module _ (g : Grid) (n s count : ℕ) (m : Summable n g) (hn : (s < n) × (0 < count) × (count ≤ n)) where
   pub traced_first : (l : List ℕ) → length l ≡ most_vertices → best (weight g) (n - 1) (count - 1) s s <ℤ pos 0 → Traced g n s count 1 (set l 0 s) s (pos 0)
   traced_first l e h = record {
     room = length-set l 0 s ∙ e;
-    here = hn.2;
+    here = hn.0;
     small = record { high = omega arith; low = omega arith };
     negative = omega (ints, h, +law (pos 0) (best (weight g) (n - 1) (count - 1) s s));
     list = ap (λ m. m ++ greedy (weight g) (n - 1) (count - 1) s (pos 0) s) (take-suc-set l 0 s (omega arith));
   }
 
   -- what the code takes for the next vertex
-  module _ (z : Sized most_vertices g) (i : ℕ) (hi : i < count) (on : List ℤ) (m : Back g n s (count - 1 - i) on) (l : List ℕ) (at : ℕ) (sum : ℤ) (t : Traced g n s count i l at sum) where
+  module _ (z : Sized most_vertices g) (i : ℕ) (hi : i < count) (on : List ℤ) (b : Back g n s (count - 1 - i) on) (l : List ℕ) (at : ℕ) (sum : ℤ) (t : Traced g n s count i l at sum) where
     -- edges left after this one, less one
     left : suc (count - 1 - i) ≡ count - i
     left = omega arith
@@ -46,21 +50,26 @@ module _ (g : Grid) (n s count : ℕ) (hn : (0 < n) × (n ≤ most_vertices) × 
     next_is : first (λ u. lt_z ((sum +ℤ get_or (row g at) u (pos 0)) +ℤ get_or on u (pos 0)) (pos 0)) n ≡ first (test (weight g) (n - 1) (count - 1 - i) s sum at) (suc (n - 1))
     unfolding test
     next_is =
-        let e : suc (n - 1) ≡ n = omega (arith, hn) in
-        rw e (first_same _ _ n (λ u hu. ap₂ (λ x y. lt_z ((sum +ℤ x) +ℤ y) (pos 0)) (read most_vertices g at u z (omega (arith, hn, t.here)) (omega (arith, hn))) (m.sum_is u hu)))
+        let e : suc (n - 1) ≡ n = omega (arith, m) in
+        rw e (first_same _ _ n (λ u hu. ap₂ (λ x y. lt_z ((sum +ℤ x) +ℤ y) (pos 0)) (read most_vertices g at u z (omega (arith, m, t.here)) (omega (arith, m))) (b.sum_is u hu)))
 
     ok : (first (test (weight g) (n - 1) (count - 1 - i) s sum at) (suc (n - 1)) < suc (n - 1)) × (((sum +ℤ weight g at (first (test (weight g) (n - 1) (count - 1 - i) s sum at) (suc (n - 1)))) +ℤ best (weight g) (n - 1) (count - 1 - i) s (first (test (weight g) (n - 1) (count - 1 - i) s sum at) (suc (n - 1)))) <ℤ pos 0)
     ok = step (weight g) (n - 1) (count - 1 - i) s sum at (rw (← left) at t.negative)
+
+    -- there is one
+    pub next_some : (o : Option ℕ) → FirstIs (λ u. lt_z ((sum +ℤ get_or (row g at) u (pos 0)) +ℤ get_or on u (pos 0)) (pos 0)) n o → IsSome o
+    next_some None e = absurd (omega (arith, e, next_is, ok.0, m))
+    next_some (Some u) e = search rules
 
     module _ (u : ℕ) (e : u ≡ first (λ u. lt_z ((sum +ℤ get_or (row g at) u (pos 0)) +ℤ get_or on u (pos 0)) (pos 0)) n) where
       u_is : u ≡ first (test (weight g) (n - 1) (count - 1 - i) s sum at) (suc (n - 1))
       u_is = e ∙ next_is
 
-      pub next_below : u < n
-      next_below = omega (arith, u_is, ok.0, hn)
+      next_below : u < n
+      next_below = omega (arith, u_is, ok.0, m)
 
       pub next_small : Bounded ((i + 1) * far_n) (sum +ℤ weight g at u)
-      next_small = bounded_more (i * far_n + far_n) ((i + 1) * far_n) (sum +ℤ weight g at u) (omega arith) (bounded_plus (i * far_n) far_n sum (weight g at u) t.small (all.entry at u t.here next_below))
+      next_small = bounded_more (i * far_n + far_n) ((i + 1) * far_n) (sum +ℤ weight g at u) (omega arith) (bounded_plus (i * far_n) far_n sum (weight g at u) t.small (m.within.entry at u t.here next_below))
 
       goes : greedy (weight g) (n - 1) (count - i) s sum at ≡ u ∷ greedy (weight g) (n - 1) (count - 1 - i) s (sum +ℤ weight g at u) u
       unfolding greedy
@@ -69,7 +78,7 @@ module _ (g : Grid) (n s count : ℕ) (hn : (0 < n) × (n ≤ most_vertices) × 
       pub traced_next : Traced g n s count (i + 1) (set l i u) u (sum +ℤ weight g at u)
       traced_next =
           let d : count - (i + 1) ≡ count - 1 - i = omega arith in
-          let h : i < length l = omega (arith, hn, t.room) in
+          let h : i < length l = omega (arith, hn, m, t.room) in
           record {
             room = length-set l i u ∙ t.room;
             here = next_below;

@@ -2,7 +2,7 @@
 use Rattle.std.specs.Prelude.{Bool}
 use Rattle.page_formulas.specs.Program.{Place}
 use Rattle.page_sheets.specs.Facts.{taken}
-use Rattle.grid.specs.declared.Added.{Added}
+use Rattle.grid.specs.declared.Edge.{Edge}
 
-abbrev pub fact_of : Place → Bool → Added
+abbrev pub fact_of : Place → Bool → Edge
 fact_of p d = record { from = (taken p d).right; to = (taken p d).left; weight = (taken p d).most }

@@ -3,66 +3,66 @@
 
 ghost use Rattle.std.specs.Prelude.{◌≡◌, ◌<◌};
 ghost use Rattle.std.proofs.Math.Option.{some};
-ghost use Rattle.page_walks.specs.Sizes.{Bounded, Sized};
+ghost use Rattle.page_walks.specs.Sizes.{Bounded};
 ghost use Rattle.page_walks.specs.Grid.{far_n};
 ghost use Rattle.page_meaning.specs.Limits.{most_vertices};
 ghost use Rattle.page_sheets.specs.Facts.{confine};
+ghost use Rattle.program.specs.Meanings.{place_of, range_of};
 ghost use Rattle.program.specs.Compiled.{SmallSpans};
 ghost use Rattle.facts.specs.Decisions.{fact_of};
 ghost use Rattle.facts.specs.RangeFacts.{Starts};
 
-use grid::Added;
+use grid::{Edge, Grid};
+use ints::weights::negation;
 use limits::VERTICES;
-
-// How many vertices there may be beside 0.
-const OTHERS: usize = VERTICES - 1;
+use program::types::{Place, Range, Vertices};
 
 // The place left − right ≤ most taken as true, or as false: an edge from right to left with weight most, or back with −1 − most.
-pub fn added(left: u8, right: u8, most: i64, truth: bool) -> Added
-    ensures { result ≡ fact_of (record { left = left; right = right; most = most }) truth }
+pub fn added(place: Place, truth: bool) -> Edge
+    ensures { result ≡ fact_of (place_of place) truth }
 {
-    let a = left as usize;
-    let b = right as usize;
+    let left = place.left as usize;
+    let right = place.right as usize;
     if truth {
-        return Added {
-            from: b,
-            to: a,
-            weight: most,
+        return Edge {
+            from: right,
+            to: left,
+            weight: place.most,
         };
     }
-    Added {
-        from: a,
-        to: b,
-        weight: ints::weights::negation(most),
+    Edge {
+        from: left,
+        to: right,
+        weight: negation(place.most),
     }
 }
 
 // A vertex's range: x − 0 ≤ hi, 0 − x ≤ −lo.
-fn confine(g: &mut [[i64; VERTICES]; VERTICES], v: usize, lo: i64, hi: i64)
-    requires { (v < most_vertices) × Bounded far_n lo × Sized most_vertices g.old }
-    ensures { g.new ≡ confine g.old v (some (record { lo = lo; hi = hi })) }
+fn confine(g: &mut Grid, v: usize, r: Range)
+    requires { (v < most_vertices) × Bounded far_n r.lo }
+    ensures { g.new.rows ≡ confine g.old.rows v (some (range_of r)) }
 {
-    grid::enter(g, 0, v, hi);
-    grid::enter(g, v, 0, ints::weights::difference(0, lo));
+    g.enter(Edge {
+        from: 0,
+        to: v,
+        weight: r.hi,
+    });
+    g.enter(Edge {
+        from: v,
+        to: 0,
+        weight: -r.lo,
+    });
 }
 
 // The facts before any decision: the ranges of the vertices that are there.
-pub fn start(
-    shown: [bool; VERTICES],
-    lo: [i64; VERTICES],
-    hi: [i64; VERTICES],
-) -> [[i64; VERTICES]; VERTICES]
-    requires { SmallSpans shown lo hi }
-    ensures { Starts shown lo hi result }
+pub fn start(vertices: &Vertices) -> Grid
+    requires { SmallSpans vertices.now.ranges }
+    ensures { Starts vertices.now.ranges result.rows }
 {
-    let mut g = grid::blank();
-    let mut i: usize = 0;
-    while i < OTHERS {
-        let v = i + 1;
-        i = v;
-        if shown[v] {
-            confine(&mut g, v, lo[v], hi[v]);
-            continue;
+    let mut g = Grid::blank();
+    for v in 1..VERTICES {
+        if let Some(r) = vertices.ranges[v] {
+            confine(&mut g, v, r);
         }
     }
     g

@@ -1,3 +1,4 @@
+// The fields that follow the version, read one after another from bytes that are lent.
 #![tactic(auto)]
 
-pub mod fields;
+pub mod cursor;

@@ -1,11 +1,11 @@
 // The words and the files of a program that is started with QUESTION-FILE irrelevant|computable SHEET-FILE, and the reading of
-// standard input. What goes wrong with a file is told in a line on what `told` prints to, which is standard error; where that
-// fails, so does the function.
+// standard input. What goes wrong with a file is told in a line on what `told` prints to, which is standard error.
 #![tactic(auto)]
 
 ghost use Rattle.std.specs.Prelude.{◌≡◌, ◌≤◌, length, IfOk};
 ghost use Rattle.files.specs.Words.{AsksFor};
 
+use question::types::Asked;
 use std::env::FillError;
 use std::io::{Read, Write};
 use std::rt::{Env, Files};
@@ -27,44 +27,45 @@ pub fn room() -> [u8; SHEET]
     [0; SHEET]
 }
 
-// What came of reading a file into a room.
-#[derive(Clone, Copy)]
-pub enum Taken {
-    // All of it: so many bytes.
-    Whole(usize),
-    // As much as the room holds, and there is more.
-    Start,
-    // It cannot be opened or read. Standard error says why.
-    Nothing,
+// Why a program goes no further.
+#[derive(Debug, Drop)]
+pub enum Failure {
+    // Something with a file or an argument. A line has told what.
+    Told,
+    // The room holds as much of a file as it can, and there is more.
+    Longer,
+    // A line could not be written.
+    Output(io::Error),
 }
 
-// How a program was started: what is asked, and how many bytes of its room the question takes; or in a way that standard error
-// has told of.
-#[derive(Clone, Copy)]
-pub enum Started {
-    Asks(u8, usize),
-    Wrong,
+impl From<io::Error> for Failure {
+    fn from(error: io::Error) -> Self {
+        Failure::Output(error)
+    }
 }
 
-// What a word asks for: 1 or 2; 0 is neither.
-fn asked(word: &[u8]) -> u8
+// What is asked, and the bytes of the question.
+#[derive(Clone, Copy)]
+pub struct Started<'a> {
+    pub asked: Asked,
+    pub question: &'a [u8],
+}
+
+// What a word asks for.
+fn asked(word: &[u8]) -> Option<Asked>
     ensures { AsksFor word.now result }
 {
-    if word == b"irrelevant".as_slice() {
-        return 1;
+    match word {
+        b"irrelevant" => Some(Asked::Irrelevant),
+        b"computable" => Some(Asked::Computable),
+        _ => None,
     }
-    if word == b"computable".as_slice() {
-        return 2;
-    }
-    0
 }
 
-fn asked_by_argument(rt: &impl Env) -> u8 {
+fn asked_by_argument(rt: &impl Env) -> Option<Asked> {
     let mut word = [0u8; WORD];
-    match rt.arg(2, &mut word) {
-        Ok(n) => asked(&word[..n]),
-        Err(_) => 0,
-    }
+    let n = rt.arg(2, &mut word).ok()?;
+    asked(&word[..n])
 }
 
 fn has_argument(rt: &impl Env, number: usize) -> bool {
@@ -85,25 +86,31 @@ fn usage(rt: &impl Env, told: &impl Print) -> io::Result<()> {
 fn words_end(text: &[u8]) -> usize
     ensures { result ≤ length text.now }
 {
-    match text.iter().position(|b| *b == b'(' || *b == 0) {
-        Some(end) => end,
-        None => text.len(),
+    text.iter()
+        .position(|b| *b == b'(' || *b == 0)
+        .unwrap_or(text.len())
+}
+
+// A line of what failed and why; what that comes to.
+fn tell(told: &impl Print, what: &str, error: io::Error) -> Failure {
+    match line_of(told, what, error) {
+        Ok(()) => Failure::Told,
+        Err(error) => Failure::Output(error),
     }
 }
 
-// A line of what failed and why.
-fn tell(told: &impl Print, what: &[u8], error: io::Error) -> io::Result<()> {
+fn line_of(told: &impl Print, what: &str, error: io::Error) -> io::Result<()> {
     let mut text = [0u8; 256];
     let mut rest = text.as_mut_slice();
     write!(rest, "{error}")?;
     let end = words_end(&text);
-    told.write_all(what)?;
+    told.write_all(what.as_bytes())?;
     told.write_all(b": ")?;
     told.write_all(text[..end].trim_ascii_end())?;
     told.write_all(b"\n")
 }
 
-// Reads until the room is full or nothing is left; answers how many bytes stand at its start.
+// Reads until the room is full or nothing is left, in as many turns as that takes; answers how many bytes stand at its start.
 pub fn fill(from: &mut impl Read, room: &mut [u8]) -> io::Result<usize>
     ensures { IfOk result (λ n. n ≤ length room.new) }
 {
@@ -127,16 +134,16 @@ fn is_at_end(file: &mut impl Read) -> bool {
 fn take(
     file: &mut impl Read,
     told: &impl Print,
-    path: &[u8],
+    path: &str,
     room: &mut [u8],
-) -> io::Result<Taken> {
-    match fill(file, room) {
-        Ok(n) if n < room.len() || is_at_end(file) => Ok(Taken::Whole(n)),
-        Ok(_) => Ok(Taken::Start),
-        Err(error) => {
-            tell(told, path, error)?;
-            Ok(Taken::Nothing)
-        }
+) -> Result<usize, Failure>
+    ensures { IfOk result (λ n. n ≤ length room.new) }
+{
+    let n = fill(file, room).map_err(|error| tell(told, path, error))?;
+    if n < room.len() || is_at_end(file) {
+        Ok(n)
+    } else {
+        Err(Failure::Longer)
     }
 }
 
@@ -146,74 +153,83 @@ fn named<'a>(
     told: &impl Print,
     argument: usize,
     room: &'a mut [u8],
-) -> io::Result<Option<&'a str>> {
+) -> Result<&'a str, Failure> {
     let Ok(n) = rt.arg(argument, room) else {
-        told.write_all(b"file name: File name too long\n")?;
-        return Ok(None);
+        told.println("file name: File name too long")?;
+        return Err(Failure::Told);
     };
     let Ok(path) = str::from_utf8(&room[..n]) else {
-        told.write_all(b"file name: not UTF-8\n")?;
-        return Ok(None);
+        told.println("file name: not UTF-8")?;
+        return Err(Failure::Told);
     };
-    Ok(Some(path))
+    Ok(path)
 }
 
-// Reads the file that an argument names.
+// Reads the file that an argument names; how many bytes stand at the room's start.
 fn read(
     rt: &(impl Files + Env),
     told: &impl Print,
     argument: usize,
     room: &mut [u8],
-) -> io::Result<Taken> {
+) -> Result<usize, Failure>
+    ensures { IfOk result (λ n. n ≤ length room.new) }
+{
     let mut name = [0u8; PATH];
-    let Some(path) = named(rt, told, argument, &mut name)? else {
-        return Ok(Taken::Nothing);
-    };
-    match fs::open(rt, path) {
-        Ok(mut file) => take(&mut file, told, path.as_bytes(), room),
-        Err(error) => {
-            tell(told, path.as_bytes(), error)?;
-            Ok(Taken::Nothing)
-        }
-    }
+    let path = named(rt, told, argument, &mut name)?;
+    let mut file = fs::open(rt, path).map_err(|error| tell(told, path, error))?;
+    take(&mut file, told, path, room)
 }
 
 // Reads the question, and what is asked of it. Of a file longer than the room the start says enough where the room has more bytes
 // than any question (`LONGEST` in the crate limits).
-pub fn start(rt: &(impl Files + Env), told: &impl Print, room: &mut [u8]) -> io::Result<Started> {
-    let asked = asked_by_argument(rt);
-    if asked == 0 || !has_argument(rt, 3) || has_argument(rt, 4) {
+pub fn start<'a>(
+    rt: &(impl Files + Env),
+    told: &impl Print,
+    room: &'a mut [u8],
+) -> Result<Started<'a>, Failure> {
+    let (Some(asked), true, false) = (
+        asked_by_argument(rt),
+        has_argument(rt, 3),
+        has_argument(rt, 4),
+    ) else {
         usage(rt, told)?;
-        return Ok(Started::Wrong);
-    }
-    let taken = read(rt, told, 1, room)?;
-    match taken {
-        Taken::Whole(n) => Ok(Started::Asks(asked, n)),
-        Taken::Start => Ok(Started::Asks(asked, room.len())),
-        Taken::Nothing => Ok(Started::Wrong),
-    }
+        return Err(Failure::Told);
+    };
+    let n = match read(rt, told, 1, room) {
+        Err(Failure::Longer) => room.len(),
+        taken => taken?,
+    };
+    Ok(Started {
+        asked,
+        question: &room[..n],
+    })
 }
 
 // Reads the sheet.
-pub fn read_sheet(
+pub fn read_sheet<'a>(
     rt: &(impl Files + Env),
     told: &impl Print,
-    room: &mut [u8],
-) -> io::Result<Taken> {
-    read(rt, told, 3, room)
+    room: &'a mut [u8],
+) -> Result<&'a [u8], Failure> {
+    let n = read(rt, told, 3, room)?;
+    Ok(&room[..n])
 }
 
-// Writes the sheet, and answers whether all went well; if not, a line has told why.
-pub fn write_sheet(rt: &(impl Files + Env), told: &impl Print, bytes: &[u8]) -> io::Result<bool> {
+// Writes the sheet.
+pub fn write_sheet(
+    rt: &(impl Files + Env),
+    told: &impl Print,
+    bytes: &[u8],
+) -> Result<(), Failure> {
     let mut name = [0u8; PATH];
-    let Some(path) = named(rt, told, 3, &mut name)? else {
-        return Ok(false);
-    };
-    match fs::write(rt, path, bytes) {
-        Ok(()) => Ok(true),
-        Err(error) => {
-            tell(told, path.as_bytes(), error)?;
-            Ok(false)
-        }
+    let path = named(rt, told, 3, &mut name)?;
+    fs::write(rt, path, bytes).map_err(|error| tell(told, path, error))
+}
+
+// What a program's end says: nothing more where a line has told what went wrong.
+pub fn end(done: Result<(), Failure>) -> io::Result<()> {
+    match done {
+        Ok(()) | Err(Failure::Told) | Err(Failure::Longer) => Ok(()),
+        Err(Failure::Output(error)) => Err(error),
     }
 }

@@ -12,12 +12,12 @@ use Rattle.page_meaning.specs.Contents.{Range, Table}
 use Rattle.page_meaning.specs.Contents as M
 use Rattle.page_meaning.specs.Claims.{insertion, modification, unless_alone}
 use Rattle.page_questions.specs.Layout.{tables_of, first_of, width_of, question_from}
-use Rattle.question.specs.Held.{version_of, row_of, ranges_of, widths_of, condition_of, question_of}
+use Rattle.question.specs.Held.{version_of, row_of, ranges_of, widths_of, condition_of, question_of, Held}
 use Rattle.question.specs.declared.types.Question.{Question}
 use Rattle.question.specs.declared.types.Verb.TheVariants.{Insert, Delete, Modify}
 use Rattle.page_formulas.specs.Formulas as F
-use Rattle.formula_contexts.specs.Contexts.{Able, settled_modes}
-use Rattle.formula.specs.Formulas.{Widths}
+use Rattle.formula_contexts.specs.Contexts.{settled_modes}
+use Rattle.page_questions.proofs.Layouts.{width_there}
 use Rattle.formula.proofs.NumberedFormulas.{version_is, lists, by}
 
 tables_length : (ws : List ℕ) (gs : List Range) → length (tables_of ws gs) ≡ length ws
@@ -41,33 +41,34 @@ new_rows q = map (row_of q.shape.width) (take q.change.count q.change.rows)
 abbrev puts : Question → List F.Formula
 puts q = map (λ n. F.formula (question_of q) [] (map M.become n) insertion) (new_rows q)
 
-module _ (q : Question) (a : Able q) (w : Widths q) where
-  listed_length : length (puts q) ≡ q.change.count
-  listed_length =
-      length-map (new_rows q) (λ n. F.formula (question_of q) [] (map M.become n) insertion)
-      ∙ length-map (take q.change.count q.change.rows) (row_of q.shape.width)
-      ∙ length-take-le q.change.count q.change.rows (omega (arith, a.rows, a.whole.held.change.few_rows))
+listed_length : (q : Question) → length (puts q) ≡ length (take q.change.count q.change.rows)
+listed_length q =
+    length-map (new_rows q) (λ n. F.formula (question_of q) [] (map M.become n) insertion)
+    ∙ length-map (take q.change.count q.change.rows) (row_of q.shape.width)
 
-  others : length (question_of q).front + length (question_of q).back + 1 ≡ q.shape.tables
+module _ (q : Question) (held : Held q) where
+  others : length (question_of q).front + length (question_of q).back + 1 ≡ length (widths_of q.shape)
   unfolding question_of question_from
   others =
       let ws = widths_of q.shape in
       let t = q.shape.changed in
-      let n = length-take-le q.shape.tables q.shape.widths (omega (arith, a.whole.held.shape.few_tables)) in
-      omega (arith, tables_length (take t ws) (ranges_of q), tables_length (drop (suc t) ws) (drop (first_of ws t + width_of ws t) (ranges_of q)), length-take-le t ws (omega (arith, n, a.whole.held.shape.changed)), length-drop (suc t) ws, n, a.whole.held.shape.changed)
+      let n : t < length ws = width_there ws t (omega (arith, held.shape.some_column, held.shape.width)) in
+      omega (arith, tables_length (take t ws) (ranges_of q), tables_length (drop (suc t) ws) (drop (first_of ws t + width_of ws t) (ranges_of q)), length-take-le t ws (omega arith), length-drop (suc t) ws)
 
   module _ (asked : ℕ) (v : q.change.verb ≡ Insert) where
     as_asked : (b : Bool) → eqb asked 1 ≡ b → F.formulas (question_of q) asked ≡ lists (question_of q) (M.insert (new_rows q)) b
     as_asked b e = by q asked Insert v ∙ ap (lists (question_of q) (M.insert (new_rows q))) e
 
-    pub first_count : asked ≡ 1 → q.change.count ≡ length (F.formulas (question_of q) asked)
-    first_count e = sym (ap length (as_asked true (eq-eqb asked 1 e)) ∙ listed_length)
+    pub first_count : asked ≡ 1 → length (take q.change.count q.change.rows) ≡ length (F.formulas (question_of q) asked)
+    first_count e = sym (ap length (as_asked true (eq-eqb asked 1 e)) ∙ listed_length q)
 
-    pub alone_count : (asked ≡ 1 → ⊥) → q.shape.tables ≡ 1 → 0 ≡ length (F.formulas (question_of q) asked)
+    pub alone_count : (asked ≡ 1 → ⊥) → length (widths_of q.shape) ≡ 1 → 0 ≡ length (F.formulas (question_of q) asked)
     alone_count e one = sym (ap length (as_asked false (ne_eqb asked 1 e) ∙ alone (question_of q).front (question_of q).back (puts q) (omega (arith, others))))
 
-    pub together_count : (asked ≡ 1 → ⊥) → (q.shape.tables ≡ 1 → ⊥) → q.change.count ≡ length (F.formulas (question_of q) asked)
-    together_count e many = sym (ap length (as_asked false (ne_eqb asked 1 e) ∙ together (question_of q).front (question_of q).back (puts q) (omega (arith, others, a.whole.held.shape.some_table))) ∙ listed_length)
+    pub together_count : (asked ≡ 1 → ⊥) → (length (widths_of q.shape) ≡ 1 → ⊥) → length (take q.change.count q.change.rows) ≡ length (F.formulas (question_of q) asked)
+    together_count e many =
+        let n : q.shape.changed < length (widths_of q.shape) = width_there (widths_of q.shape) q.shape.changed (omega (arith, held.shape.some_column, held.shape.width)) in
+        sym (ap length (as_asked false (ne_eqb asked 1 e) ∙ together (question_of q).front (question_of q).back (puts q) (omega (arith, others, many))) ∙ listed_length q)
 
 -- ---- a delete and a modify
 

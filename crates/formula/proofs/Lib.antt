@@ -1,5 +1,5 @@
-pub mod Ranges
 pub mod NumberedFormulas
-pub mod Readiness
 pub mod Counts
+pub mod Ranges
+pub mod Readiness
 pub mod ProperFormulas

@@ -5,15 +5,15 @@ use mathlib.Core.List.{List, [], ◌∷◌, map}
 use Prim.Native.Nat.{ℕ, zero, suc, ◌<◌}
 use native.Mathlib.Omega.{arith}
 use lib.Dec.{eqb}
-use lib.ListN.{length, get_or, take, length-map}
-use lib.Seq.{get_or-take, length-take-le}
+use lib.ListN.{length, get_or, take, length-map, length-take}
+use lib.Seq.{get_or-take}
 use Rattle.page_meaning.specs.Contents.{Version, Table, Change, Mode, become, columns}
 use Rattle.page_meaning.specs.Contents as M
 use Rattle.page_meaning.specs.Claims.{Part, Line, insertion, deletion, modification, read_parts, unless_alone, formulas_by}
 use Rattle.page_meaning.specs.Condition.{Condition}
 use Rattle.page_questions.specs.Guarantees.{Every}
 use Rattle.page_questions.specs.Layout.{question_from}
-use Rattle.question.specs.Held.{version_of, change_by, change_of, row_of, condition_of, question_of}
+use Rattle.question.specs.Held.{version_of, change_by, change_of, row_of, question_of}
 use Rattle.question.specs.declared.types.Question.{Question}
 use Rattle.question.specs.declared.types.Verb.{Verb}
 use Rattle.question.specs.declared.types.Verb.TheVariants.{Insert, Delete, Modify}
@@ -23,14 +23,14 @@ use Rattle.page_formulas.proofs.Readings.{insertion_fits, deletion_fits, modific
 use Rattle.program.specs.Built.{Means}
 use Rattle.sights.specs.Sights.{modes_of}
 use Rattle.program.specs.Compiled.{Compiled, Spans}
-use Rattle.program.specs.Formulas as compiled
+use Rattle.program.specs.declared.types.Formula as compiled
 use Rattle.formula_lines.specs.Lines.{first_of, rest_of, line_by, line_for, Numbered, Tabled}
 use Rattle.formula_contexts.specs.Contexts.{Able, Buildable, no_row, condition_for, modes_for, Done}
 use Rattle.formula_claims.specs.Claims.{rows_of, words_of}
 use Rattle.formula.specs.Formulas.{formula_at}
 use Rattle.formula_lines.specs.declared.types.Line as declared
 use Rattle.formula_contexts.specs.declared.contexts.Context as types
-use Rattle.formula_contexts.proofs.FilledArrays.{map_at}
+use Rattle.pieces.specs.Pieces.{tokens_of}
 
 pub change_is : (q : Question) → (question_of q).change ≡ change_of q.shape.width q.change
 unfolding question_of question_from
@@ -39,6 +39,11 @@ change_is q = refl
 pub version_is : (q : Question) → (question_of q).version ≡ version_of q.version
 unfolding question_of question_from
 version_is q = refl
+
+map_at : {A B : Type 0} (f : A → B) (l : List A) (i : ℕ) (d : A) (e : B) → i < length l → get_or (map f l) i e ≡ f (get_or l i d)
+map_at f [] i d e h = absurd (omega arith)
+map_at f (x ∷ l) zero d e h = refl
+map_at f (x ∷ l) (suc i) d e h = map_at f l i d e (omega arith)
 
 -- the formulas of a change, as asked
 abbrev pub lists : M.Question → Change → Bool → List F.Formula
@@ -72,7 +77,7 @@ module _ (q : Question) (i : ℕ) where
   put n = F.formula (question_of q) [] (map become n) insertion
 
   in_rows : Able q → i < length (map put new) → i < q.change.count
-  in_rows a h = omega (arith, length-map new put, length-map (take q.change.count q.change.rows) (row_of q.shape.width), length-take-le q.change.count q.change.rows (omega (arith, a.rows, a.whole.held.change.few_rows)))
+  in_rows a h = omega (arith, length-map new put, length-map (take q.change.count q.change.rows) (row_of q.shape.width), length-take q.change.count q.change.rows)
 
   row_found : Able q → (b : Bool) → i < length (map put new) → Found q Insert b i (map put new)
   row_found a b h =
@@ -139,5 +144,5 @@ module _ (q : Question) (f : compiled.Formula) (l : declared.Line) (d : types.Co
       let k = subst (λ two. Means f.program (read_parts (words_of Q d) (rows_of Q two) (first_of l) (rest_of l))) n.pairs m in
       subst (Compiled f) (sym w.formula)
       (subst (λ x. Compiled f (F.formula Q x (modes_for v q i) line)) n.condition
-      (subst (λ x. Compiled f (F.formula Q (condition_of d.chosen) x line)) n.modes
-      (subst (λ x. Compiled f (F.formula Q (condition_of d.chosen) (modes_of d.sight) x)) t.is (outlined Q f (condition_of d.chosen) (modes_of d.sight) l.pairs (first_of l) (rest_of l) e k s))))
+      (subst (λ x. Compiled f (F.formula Q (tokens_of d.chosen.now) x line)) n.modes
+      (subst (λ x. Compiled f (F.formula Q (tokens_of d.chosen.now) (modes_of d.sight) x)) t.is (outlined Q f (tokens_of d.chosen.now) (modes_of d.sight) l.pairs (first_of l) (rest_of l) e k s))))

@@ -6,7 +6,7 @@ use Rattle.page_questions.specs.Guarantees.{Accepted}
 use Rattle.page_formulas.specs.Formulas.{formulas, no_formula}
 use Rattle.formula.specs.Formulas.{formula_at}
 use Rattle.program.specs.Compiled.{Compiled, Fine}
-use Rattle.program.specs.Formulas as compiled
+use Rattle.program.specs.declared.types.Formula as compiled
 use Rattle.page_formulas.specs.ProperFormulas.{Proper}
 use Rattle.page_formulas.proofs.ProperFormulas.{formulas_proper}
 use Rattle.page_sheets.proofs.Findings.{all_at}

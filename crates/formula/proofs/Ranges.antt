@@ -19,12 +19,9 @@ use Rattle.sights.proofs.Shapes.{columns_are, visible_is}
 
 -- ---- lists of columns
 
-first_ranges_lem : (cs : List Column) (n : ℕ) → row_ranges false cs n ≡ first_ranges (map (λ c. c.range) (map column_of (take n cs)))
-first_ranges_lem cs n = go (take n cs)
-  where
-    go : (l : List Column) → map (λ c. range_if true (column_of c).range) l ≡ map some (map (λ c. c.range) (map column_of l))
-    go [] = refl
-    go (c ∷ l) = ap (λ m. some (column_of c).range ∷ m) (go l)
+first_ranges_lem : (cs : List Column) → row_ranges false cs ≡ first_ranges (map (λ c. c.range) (map column_of cs))
+first_ranges_lem [] = refl
+first_ranges_lem (c ∷ cs) = ap (λ m. some (column_of c).range ∷ m) (first_ranges_lem cs)
 
 turned : (b : Bool) (g : Range) → range_if (not b) g ≡ cond b none (some g)
 turned true g = refl
@@ -42,15 +39,15 @@ hidden_ranges_lem vs k (c ∷ cs) h =
 -- ---- a question's vertices
 
 module _ (q : Question) (w : Whole q) where
-  hidden_same : row_ranges true q.columns q.shape.total ≡ hidden_ranges (question_of q).visible 0 (columns (question_of q))
+  hidden_same : row_ranges true (take q.shape.total q.columns) ≡ hidden_ranges (question_of q).visible 0 (columns (question_of q))
   hidden_same =
       hidden_ranges_lem (question_of q).visible 0 (take q.shape.total q.columns)
       (λ i h. let l : i < q.shape.total = omega (arith, length-take-le q.shape.total q.columns (omega (arith, w.long, w.held.shape.few_columns))) in ap (among (question_of q).visible) (omega arith) ∙ visible_is q i l ∙ ap (λ c. c.visible) (sym (get_or-take q.shape.total q.columns i no_column l)))
       ∙ ap (hidden_ranges (question_of q).visible 0) (sym (columns_are q w))
 
-  first_same : row_ranges false q.columns q.shape.total ≡ first_ranges (columns (question_of q))
-  first_same = first_ranges_lem q.columns q.shape.total ∙ ap first_ranges (sym (columns_are q w))
+  first_same : row_ranges false (take q.shape.total q.columns) ≡ first_ranges (columns (question_of q))
+  first_same = first_ranges_lem (take q.shape.total q.columns) ∙ ap first_ranges (sym (columns_are q w))
 
-  pub ranges_same : (pairs : Bool) → ranges_by pairs q.columns q.shape.total ≡ cond pairs (both_ranges (question_of q)) (first_ranges (columns (question_of q)))
+  pub ranges_same : (pairs : Bool) → ranges_by pairs (take q.shape.total q.columns) ≡ cond pairs (both_ranges (question_of q)) (first_ranges (columns (question_of q)))
   ranges_same true = ap₂ ◌++◌ first_same hidden_same
   ranges_same false = first_same

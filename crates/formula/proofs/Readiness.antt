@@ -1,10 +1,12 @@
 -- A question that was read and accepted is one that formulas can be built of.
-use mathlib.Core.Path.{◌≡◌, subst}
-use Prim.Native.Nat.{ℕ, ◌<◌}
-use lib.ListN.{length}
-use Rattle.page_meaning.specs.Limits.{most_columns, most_tokens, most_rows}
+use mathlib.Core.Path.{subst}
+use Prim.Native.Nat.{ℕ, ◌<◌, ◌≤◌}
+use mathlib.Core.List.{List}
+use lib.ListN.{length, take, length-take}
+use native.Mathlib.Omega.{arith}
+use Rattle.page_meaning.specs.Limits.{most_tokens}
 use Rattle.page_meaning.specs.WellFormed.{Uses, Reads}
-use Rattle.question.specs.Held.{condition_of, change_by, question_of, Held}
+use Rattle.question.specs.Held.{condition_of, change_by, question_of}
 use Rattle.page_questions.specs.Guarantees.{Accepted, ConditionOk, ChangeAccepted}
 use Rattle.question.specs.declared.types.Question.{Question}
 use Rattle.question.specs.declared.types.Verb.{Verb}
@@ -15,25 +17,21 @@ use Rattle.formula.proofs.NumberedFormulas.{change_is}
 use Rattle.sights.proofs.Shapes.{columns_length, condition_is}
 use Rattle.page_formulas.proofs.Usability.{Exists, ChangeUsable, usable}
 
-module _ (q : Question) (h : Held q) (a : length q.columns ≡ most_columns) (b : length q.condition.tokens ≡ most_tokens) (c : length q.change.rows ≡ most_rows) (d : length q.change.condition.tokens ≡ most_tokens) (e : length q.change.settings ≡ most_columns) (ok : Accepted (question_of q)) where
-  whole : Whole q
-  whole = record { held = h; long = a }
-
+module _ (q : Question) (whole : Whole q) (ok : Accepted (question_of q)) where
   -- a column exists exactly if it is there
   there : (P : (ℕ → Type 0) → Type 0) → P (Exists (question_of q)) → P (There q)
   there P p = subst (λ n. P (λ i. i < n)) (columns_length q whole) p
 
-  pub able : Able q
+  few : {A : Type 0} (n : ℕ) (l : List A) → n ≤ most_tokens → length (take n l) ≤ most_tokens
+  few n l h = simp length-take (omega arith)
+
+  able : Able q
   able =
       record {
         whole = whole;
-        long = e;
-        rows = c;
-        tokens = d;
         listed =
             record {
-              long = b;
-              few = h.few_tokens;
+              few = few q.condition.count q.condition.tokens whole.held.few_tokens;
               uses = there (λ P. Uses P (condition_of q.condition)) (subst (Uses (Exists (question_of q))) (condition_is q) (usable (question_of q) ok).uses);
               few_comparisons = (subst ConditionOk (condition_is q) ok.condition).few_comparisons;
             };
@@ -43,7 +41,12 @@ module _ (q : Question) (h : Held q) (a : length q.columns ≡ most_columns) (b 
   chosen k u =
       record {
         able = able;
-        chosen = record { long = d; few = h.change.few_tokens; uses = there (λ P. Uses P (condition_of q.change.condition)) u; few_comparisons = k.few_comparisons };
+        chosen =
+            record {
+              few = few q.change.condition.count q.change.condition.tokens whole.held.change.few_tokens;
+              uses = there (λ P. Uses P (condition_of q.change.condition)) u;
+              few_comparisons = k.few_comparisons;
+            };
       }
 
   pub buildable : Buildable q.change.verb q

@@ -13,11 +13,10 @@ use Rattle.page_formulas.specs.Program.{false_i}
 use Rattle.page_formulas.specs.Parts.{condition_program}
 use Rattle.page_formulas.specs.Formulas.{vertex, among, new_term, after, bounded_all, differs_over}
 use Rattle.page_formulas.specs.Formulas as F
-use Rattle.question.specs.Held.{condition_of}
-use Rattle.sights.specs.Sights.{flags_of, shown_from, visible_of, row_of, modes_of, mode_in, sight_of, Usable}
-use Rattle.pieces.specs.Pieces.{table_from}
+use Rattle.sights.specs.Sights.{flags_of, shown_from, visible_of, row_of, modes_of, mode_in, sight_of}
+use Rattle.pieces.specs.Pieces.{tokens_of, table_from}
 use Rattle.sights.specs.declared.types.Sight.{Sight}
-use Rattle.formula_contexts.specs.Contexts.{view_of, Under, Legible}
+use Rattle.formula_contexts.specs.Contexts.{view_of, Under}
 use Rattle.formula_claims.specs.Claims.{rows_of, words_of}
 use Rattle.formula_contexts.specs.declared.contexts.Context.{Context}
 
@@ -65,41 +64,39 @@ module _ (Q : Question) (d : Context) (u : Under Q d) where
     abbrev new : Sight
     new = view_of d.sight (d.pairs && second) true
 
-    pub old_is : sight_of old ≡ row
+    old_is : sight_of old ≡ row
     old_is = row_is (d.pairs && second) false
 
-    pub new_is : sight_of new ≡ after Q modes row
+    new_is : sight_of new ≡ after Q modes row
     unfolding after
     new_is = ap₂ {C = C.Sight} (λ (m : ℕ → Mode) (σ : C.Sight) i. new_term (m i) σ (σ i)) (mode_is (d.pairs && second)) (row_is (d.pairs && second) true)
 
-    -- ---- conditions and range tests
+    -- ---- conditions and range tests, of a sight that is a view
 
-    pub listed_is : condition_program (sight_of old) (condition_of d.listed) ≡ condition_program row Q.condition
-    listed_is = ap₂ condition_program old_is (sym u.listed)
+    pub listed_is : (v : Sight) → v ≡ old → condition_program (sight_of v) (tokens_of d.listed.now) ≡ condition_program row Q.condition
+    listed_is v e = ap (λ v. condition_program (sight_of v) (tokens_of d.listed.now)) e ∙ ap₂ condition_program old_is (sym u.listed)
 
-    pub relisted_is : condition_program (sight_of new) (condition_of d.listed) ≡ condition_program (after Q modes row) Q.condition
-    relisted_is = ap₂ condition_program new_is (sym u.listed)
+    pub relisted_is : (v : Sight) → v ≡ new → condition_program (sight_of v) (tokens_of d.listed.now) ≡ condition_program (after Q modes row) Q.condition
+    relisted_is v e = ap (λ v. condition_program (sight_of v) (tokens_of d.listed.now)) e ∙ ap₂ condition_program new_is (sym u.listed)
 
-    pub chosen_is : condition_program (sight_of old) (condition_of d.chosen) ≡ condition_program row (condition_of d.chosen)
-    chosen_is = ap (λ σ. condition_program σ (condition_of d.chosen)) old_is
+    pub chosen_is : (v : Sight) → v ≡ old → condition_program (sight_of v) (tokens_of d.chosen.now) ≡ condition_program row (tokens_of d.chosen.now)
+    chosen_is v e = ap (λ v. condition_program (sight_of v) (tokens_of d.chosen.now)) e ∙ ap (λ σ. condition_program σ (tokens_of d.chosen.now)) old_is
 
-    pub tests_are : bounded_all (row_of new) (table_from d.sight.first d.columns) modes ≡ bounded_all row Q.changed modes
-    tests_are = u.tests (row_of new) ∙ ap (λ σ. bounded_all σ Q.changed modes) (row_is (d.pairs && second) true)
+    pub tests_are : (v : Sight) → v ≡ new → bounded_all (row_of v) (table_from v.first v.columns.now) (modes_of v) ≡ bounded_all row Q.changed modes
+    tests_are v e =
+        ap (λ v. bounded_all (row_of v) (table_from v.first v.columns.now) (modes_of v)) e
+        ∙ u.tests (row_of new)
+        ∙ ap (λ σ. bounded_all σ Q.changed modes) (row_is (d.pairs && second) true)
 
   -- ---- differences
 
-  pub than_is : (other moved : Bool) → sight_of (view_of d.sight (d.pairs && other) moved) ≡ cond moved (after Q modes (rows_of Q d.pairs other)) (rows_of Q d.pairs other)
+  than_is : (other moved : Bool) → sight_of (view_of d.sight (d.pairs && other) moved) ≡ cond moved (after Q modes (rows_of Q d.pairs other)) (rows_of Q d.pairs other)
   than_is other true = new_is other
   than_is other false = old_is other
 
-  pub differs_is : (second other moved : Bool) → let a = view_of d.sight (d.pairs && second) true in false_i ∷ differs_over (mode_in a) (sight_of a) (sight_of (view_of d.sight (d.pairs && other) moved)) (visible_of a) ≡ (words_of Q d).differ (after Q modes (rows_of Q d.pairs second)) (cond moved (after Q modes (rows_of Q d.pairs other)) (rows_of Q d.pairs other))
-  differs_is second other moved =
-      ap (λ m. false_i ∷ differs_over m (sight_of (view_of d.sight (d.pairs && second) true)) (sight_of (view_of d.sight (d.pairs && other) moved)) (visible_of d.sight)) (mode_is (d.pairs && second))
+  pub differs_is : (second other moved : Bool) (a b : Sight) → a ≡ view_of d.sight (d.pairs && second) true → b ≡ view_of d.sight (d.pairs && other) moved → false_i ∷ differs_over (mode_in a) (sight_of a) (sight_of b) (visible_of a) ≡ (words_of Q d).differ (after Q modes (rows_of Q d.pairs second)) (cond moved (after Q modes (rows_of Q d.pairs other)) (rows_of Q d.pairs other))
+  differs_is second other moved a b e f =
+      ap₂ (λ a b. false_i ∷ differs_over (mode_in a) (sight_of a) (sight_of b) (visible_of a)) e f
+      ∙ ap (λ m. false_i ∷ differs_over m (sight_of (view_of d.sight (d.pairs && second) true)) (sight_of (view_of d.sight (d.pairs && other) moved)) (visible_of d.sight)) (mode_is (d.pairs && second))
       ∙ ap (λ vs. false_i ∷ differs_over (mode_at Q modes) (sight_of (view_of d.sight (d.pairs && second) true)) (sight_of (view_of d.sight (d.pairs && other) moved)) vs) (sym u.visible)
       ∙ ap₂ (λ σ τ. false_i ∷ differs_over (mode_at Q modes) σ τ Q.visible) (new_is second) (than_is other moved)
-
--- ---- they can be read
-
-pub view_usable : (d : Context) → Legible d → (second moved : Bool) → Usable (view_of d.sight second moved)
-view_usable d l second true = let u = l.usable in record { inside = u.inside; few = u.few; long = u.long; flags = u.flags; reads = rw l.moved at u.reads }
-view_usable d l second false = let u = l.usable in record { inside = u.inside; few = u.few; long = u.long; flags = u.flags; reads = tt }

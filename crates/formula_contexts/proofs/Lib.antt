@@ -1,2 +1,1 @@
-pub mod FilledArrays
 pub mod Grounds

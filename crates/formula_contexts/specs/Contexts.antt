@@ -1,6 +1,5 @@
 -- What the code takes for granted of a question when it writes its formulas, and what they are read under.
-use Rattle.std.specs.Prelude.{ℕ, ◌≡◌, Bool, true, List, [], map, length, get_or, take, ℤ}
-use Rattle.page_meaning.specs.Limits.{most_columns, most_tokens, most_rows}
+use Rattle.std.specs.Prelude.{ℕ, ◌≡◌, Bool, true, List, [], map, length, get_or, take}
 use Rattle.page_meaning.specs.Contents.{Mode, become, columns, first}
 use Rattle.page_meaning.specs.Contents as M
 use Rattle.page_meaning.specs.Condition as C
@@ -8,14 +7,14 @@ use Rattle.page_meaning.specs.WellFormed.{Reads}
 use Rattle.question.specs.Held.{condition_of, setting_of, question_of}
 use Rattle.question.specs.Held as H
 use Rattle.question.specs.declared.types.Question.{Question}
-use Rattle.question.specs.declared.types.Setting.{Setting}
+use Rattle.question.specs.declared.types.Token.{Token}
 use Rattle.question.specs.declared.types.Row.{Row}
 use Rattle.question.specs.declared.types.Verb.{Verb}
 use Rattle.question.specs.declared.types.Verb.TheVariants.{Insert, Delete, Modify}
 use Rattle.page_formulas.specs.Compilation as S
 use Rattle.page_formulas.specs.Formulas.{bounded_all}
 use Rattle.sights.specs.Sights.{There, Has, Whole, Usable, modes_of, visible_of}
-use Rattle.pieces.specs.Pieces.{Compilable, table_from}
+use Rattle.pieces.specs.Pieces.{tokens_of, Compilable, table_from}
 use Rattle.sights.specs.declared.types.Sight.{Sight}
 use Rattle.formula_contexts.specs.declared.contexts.Context.{Context}
 
@@ -25,18 +24,22 @@ use Rattle.formula_contexts.specs.declared.contexts.Context.{Context}
 abbrev pub settled_modes : Question → List Mode
 settled_modes q = map setting_of (take q.shape.width q.change.settings)
 
--- its list can be worked out, in arrays as long as declared
+-- the tokens of its list's condition, and of its change's
+abbrev pub listed_tokens : Question → List Token
+listed_tokens q = take q.condition.count q.condition.tokens
+
+abbrev pub chosen_tokens : Question → List Token
+chosen_tokens q = take q.change.condition.count q.change.condition.tokens
+
+-- its list can be worked out
 pub record Able (q : Question) : Type 0 where
   pub whole : Whole q
-  pub long : length q.change.settings ≡ most_columns
-  pub rows : length q.change.rows ≡ most_rows
-  pub tokens : length q.change.condition.tokens ≡ most_tokens
-  pub listed : Compilable (There q) q.condition
+  pub listed : Compilable (There q) (listed_tokens q)
 
 -- and a delete's condition
 pub record Chooses (q : Question) : Type 0 where
   pub able : Able q
-  pub chosen : Compilable (There q) q.change.condition
+  pub chosen : Compilable (There q) (chosen_tokens q)
 
 -- and a modify's new values
 pub record Modifies (q : Question) : Type 0 where
@@ -68,15 +71,15 @@ modes_for Modify q i = settled_modes q
 
 -- one row of a sight, as it is or moved
 abbrev pub view_of : Sight → Bool → Bool → Sight
-view_of s second moved = record { settings = s.settings; visible = s.visible; first = s.first; modes = s.modes; total = s.total; second = second; moved = moved }
+view_of s second moved = record { columns = s.columns; modes = s.modes; first = s.first; second = second; moved = moved }
 
 -- its columns and conditions are the question's
 pub record Under (Q : M.Question) (d : Context) : Type 0 where
   pub first : first Q ≡ d.sight.first
-  pub total : length (columns Q) ≡ d.sight.total
+  pub total : length (columns Q) ≡ length d.sight.columns.now
   pub visible : Q.visible ≡ visible_of d.sight
-  pub listed : Q.condition ≡ condition_of d.listed
-  pub tests : (σ : S.Sight) → bounded_all σ (table_from d.sight.first d.columns) (modes_of d.sight) ≡ bounded_all σ Q.changed (modes_of d.sight)
+  pub listed : Q.condition ≡ tokens_of d.listed.now
+  pub tests : (σ : S.Sight) → bounded_all σ (table_from d.sight.first d.sight.columns.now) (modes_of d.sight) ≡ bounded_all σ Q.changed (modes_of d.sight)
 
 -- it is some question's, and its sight and conditions can be read
 pub record Legible (d : Context) : Type 0 where
@@ -84,19 +87,13 @@ pub record Legible (d : Context) : Type 0 where
   pub under : Under question d
   pub usable : Usable d.sight
   pub moved : d.sight.moved ≡ true
-  pub long : length d.columns ≡ most_columns
-  pub listed : Compilable (Has d.sight) d.listed
-  pub chosen : Compilable (Has d.sight) d.chosen
+  pub listed : Compilable (Has d.sight) d.listed.now
+  pub chosen : Compilable (Has d.sight) d.chosen.now
 
 -- a question's context, as it is declared
 pub record Done (q : Question) (d : C.Condition) (ms : List Mode) (two : Bool) (r : Context) : Type 0 where
   pub legible : Legible r
   pub under : Under (question_of q) r
-  pub condition : condition_of r.chosen ≡ d
+  pub condition : tokens_of r.chosen.now ≡ d
   pub modes : modes_of r.sight ≡ ms
   pub pairs : r.pairs ≡ two
-
--- settings that put the values in
-pub record Becomes (vs : List ℤ) (ss : List Setting) : Type 0 where
-  pub long : length ss ≡ most_columns
-  pub modes : map setting_of ss ≡ map become vs

@@ -1,112 +1,74 @@
 // What a question's formulas are read under.
-ghost use Rattle.std.specs.Prelude.{◌≤◌, ◌<◌, ◌≡◌, map, length, take};
-ghost use Rattle.page_meaning.specs.Limits.{most_columns};
+ghost use Rattle.std.specs.Prelude.{◌≤◌, ◌<◌, ◌≡◌, ◌&&◌, length};
 ghost use Rattle.page_meaning.specs.WellFormed.{Reads};
-ghost use Rattle.question.specs.Held.{setting_of, condition_of};
-ghost use Rattle.sights.specs.Sights.{There};
-ghost use Rattle.pieces.specs.Pieces.{Compilable};
-ghost use Rattle.formula_contexts.specs.Contexts.{Able, Becomes, Buildable, condition_for, modes_for, Done};
+ghost use Rattle.sights.specs.Sights.{There, modes_by};
+ghost use Rattle.pieces.specs.Pieces.{tokens_of, Compilable};
+ghost use Rattle.formula_contexts.specs.Contexts.{Able, Buildable, condition_for, modes_for, view_of, Done};
 
-use limits::COLUMNS;
-use question::types::{Column, Condition, Mode, Question, Row, Setting, Verb};
-use sights::types::Sight;
+use question::types::{Question, Token, Verb};
+use sights::types::{Modes, Sight};
 
-// What claims are read under: the columns and the list's condition, the change's condition, and the sight of a row after the change.
+// What claims are read under: the sight of a row after the change, the list's condition and the change's.
 #[derive(Clone, Copy)]
-pub struct Context {
-    pub sight: Sight,
-    pub columns: [Column; COLUMNS],
-    pub listed: Condition,
-    pub chosen: Condition,
+pub struct Context<'a> {
+    pub sight: Sight<'a>,
+    pub listed: &'a [Token],
+    pub chosen: &'a [Token],
     pub pairs: bool,
 }
 
-// Each column becomes the row's value.
-pub fn becoming(row: Row) -> [Setting; COLUMNS]
-    ensures { Becomes row.values result }
-{
-    let mut settings = [Setting { mode: Mode::Keep }; COLUMNS];
-    let mut j = 0;
-    while j < COLUMNS {
-        let k = row.values[j];
-        settings[j] = Setting {
-            mode: Mode::Become(k),
-        };
-        j += 1;
-    }
-    settings
-}
-
-// Which columns are visible.
-pub fn flags(columns: [Column; COLUMNS]) -> [bool; COLUMNS]
-    requires { length columns ≡ most_columns }
-    ensures { result ≡ map (λ c. c.visible) columns }
-{
-    let mut visible = [false; COLUMNS];
-    let mut i = 0;
-    while i < COLUMNS {
-        let c = columns[i];
-        visible[i] = c.visible;
-        i += 1;
-    }
-    visible
-}
-
-// A condition and so many settings, under a question.
-pub fn under(
-    q: Question,
-    settings: [Setting; COLUMNS],
-    modes: usize,
-    chosen: Condition,
-    pairs: bool,
-) -> Context
-    requires { Able q × (length settings ≡ most_columns) × (modes ≤ q.shape.width) × Compilable (There q) chosen × Reads (There q) (map setting_of (take modes settings)) }
-    ensures { Done q (condition_of chosen) (map setting_of (take modes settings)) pairs result }
-{
-    let columns = q.columns;
-    let listed = q.condition;
-    let sight = Sight {
-        settings,
-        visible: flags(columns),
-        first: q.shape.first,
-        modes,
-        total: q.shape.total,
-        second: false,
-        moved: true,
-    };
-    Context {
-        sight,
-        columns,
-        listed,
-        chosen,
-        pairs,
-    }
-}
-
-// The context of formula i: a row put in, a delete's condition, a modify.
-pub fn context_of(q: Question, i: usize, pairs: bool) -> Context
-    requires { Buildable q.change.verb q × (q.change.verb ≡ Verb.Insert → i < q.change.count) }
-    ensures { Done q (condition_for q.change.verb q) (modes_for q.change.verb q i) pairs result }
-{
-    let change = q.change;
-    let verb = change.verb;
-    let width = q.shape.width;
-    match verb {
-        Verb::Insert => {
-            let row = change.rows[i];
-            let mut none = change.condition;
-            none.count = 0;
-            under(q, becoming(row), width, none, pairs)
+impl<'a> Context<'a> {
+    // A condition and modes, under a question.
+    fn under(q: &'a Question, modes: Modes<'a>, chosen: &'a [Token], pairs: bool) -> Context<'a>
+        requires { Able q.now × (length (modes_by modes) ≤ q.now.shape.width) × Compilable (There q.now) chosen.now × Reads (There q.now) (modes_by modes) }
+        ensures { Done q.now (tokens_of chosen.now) (modes_by modes.entry) pairs result }
+    {
+        Context {
+            sight: Sight {
+                columns: &q.columns[..q.shape.total],
+                modes,
+                first: q.shape.first,
+                second: false,
+                moved: true,
+            },
+            listed: &q.condition.tokens[..q.condition.count],
+            chosen,
+            pairs,
         }
-        Verb::Delete => {
-            let settings = change.settings;
-            let chosen = change.condition;
-            under(q, settings, 0, chosen, pairs)
+    }
+
+    // That of formula i: a row put in, a delete's condition, a modify.
+    pub fn of(q: &'a Question, i: usize, pairs: bool) -> Context<'a>
+        requires { Buildable q.now.change.verb q.now × (q.now.change.verb ≡ Verb.Insert → i < q.now.change.count) }
+        ensures { Done q.now (condition_for q.now.change.verb q.now) (modes_for q.now.change.verb q.now i) pairs result }
+    {
+        let change = &q.change;
+        let width = q.shape.width;
+        let chosen = &change.condition.tokens;
+        match change.verb {
+            Verb::Insert => {
+                let row = Modes::Row(&change.rows[i].values[..width]);
+                Context::under(q, row, &chosen[..0], pairs)
+            }
+            Verb::Delete => {
+                let kept = Modes::Settings(&change.settings[..0]);
+                Context::under(q, kept, &chosen[..change.condition.count], pairs)
+            }
+            Verb::Modify => {
+                let settings = Modes::Settings(&change.settings[..width]);
+                Context::under(q, settings, &chosen[..change.condition.count], pairs)
+            }
         }
-        Verb::Modify => {
-            let settings = change.settings;
-            let chosen = change.condition;
-            under(q, settings, width, chosen, pairs)
+    }
+
+    // A row's sight, as it is or moved; the first row's where there are no two.
+    pub fn view(&self, second: bool, moved: bool) -> Sight<'a>
+        ensures { result ≡ view_of self.now.sight (self.now.pairs && second) moved }
+    {
+        Sight {
+            second: self.pairs && second,
+            moved,
+            ..self.sight
         }
     }
 }

@@ -2,4 +2,3 @@
 #![tactic(auto)]
 
 pub mod contexts;
-pub mod views;

@@ -1,5 +1,5 @@
 -- What the table's declared words mean, and which of its lines a formula has.
-use Rattle.std.specs.Prelude.{ℕ, ◌≤◌, ◌<◌, ◌≡◌, Bool, true, false, List, map, length, get_or, take, drop}
+use Rattle.std.specs.Prelude.{ℕ, ◌≤◌, ◌<◌, ◌≡◌, Bool, true, false, List, map, length, get_or, drop}
 use Rattle.page_meaning.specs.Claims as claim
 use Rattle.page_meaning.specs.Claims.{insertion, deletion, modification}
 use Rattle.page_meaning.specs.Contents.{Version, version1, version2}
@@ -8,6 +8,7 @@ use Rattle.question.specs.declared.types.Verb.TheVariants.{Insert, Delete, Modif
 use Rattle.formula_lines.specs.declared.types.Claim.{Claim}
 use Rattle.formula_lines.specs.declared.types.Claim.TheVariants.{Listed, Relisted, Chosen, Fitting, Moving, Staying, Lasting, Differing}
 use Rattle.formula_lines.specs.declared.types.Part.{Part}
+use Rattle.formula_lines.specs.declared.types.Part.TheVariants.{First, Second, NotFirst, NotSecond}
 use Rattle.formula_lines.specs.declared.types.Line.{Line}
 
 abbrev pub claim_of : Claim → claim.Claim
@@ -20,25 +21,22 @@ claim_of Staying = claim.staying version1
 claim_of Lasting = claim.staying version2
 claim_of (Differing other after) = claim.differing other after
 
-abbrev pub part_by : Bool → Bool → claim.Claim → claim.Part
-part_by false false c = claim.of1 c
-part_by true false c = claim.of2 c
-part_by false true c = claim.not1 c
-part_by true true c = claim.not2 c
-
 abbrev pub part_of : Part → claim.Part
-part_of p = part_by p.second p.denied (claim_of p.claim)
+part_of (First c) = claim.of1 (claim_of c)
+part_of (Second c) = claim.of2 (claim_of c)
+part_of (NotFirst c) = claim.not1 (claim_of c)
+part_of (NotSecond c) = claim.not2 (claim_of c)
 
--- the machine's part past the end of an array
+-- past the last part of a line
 abbrev pub no_part : Part
-no_part = record { claim = Listed; second = false; denied = false }
+no_part = First Listed
 
 -- a line's parts; the first and the others
 abbrev pub parts_of : Line → List claim.Part
-parts_of l = map part_of (take l.count l.parts)
+parts_of l = map part_of l.parts.now
 
 abbrev pub first_of : Line → claim.Part
-first_of l = part_of (get_or l.parts 0 no_part)
+first_of l = part_of (get_or l.parts.now 0 no_part)
 
 abbrev pub rest_of : Line → List claim.Part
 rest_of l = drop 1 (parts_of l)
@@ -50,16 +48,10 @@ line_by false p ps = claim.single p ps
 abbrev pub line_of : Line → claim.Line
 line_of l = line_by l.pairs (first_of l) (rest_of l)
 
--- how many parts a line has room for
-abbrev pub most_parts : ℕ
-most_parts = 7
-
 -- a line of the table, as it is declared
 pub record Tabled (r : Line) (l : claim.Line) : Type 0 where
   pub is : line_of r ≡ l
-  pub some : 1 ≤ r.count
-  pub few : r.count ≤ most_parts
-  pub long : length r.parts ≡ most_parts
+  pub some : 1 ≤ length r.parts.now
 
 -- the line of formula i of a question, asked 1 or 2
 abbrev pub line_for : Version → Verb → Bool → ℕ → claim.Line

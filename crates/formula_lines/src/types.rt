@@ -1,8 +1,5 @@
 // The table's words (FORMAT 5.2), declared. specs/Lines says what they mean.
 
-// The longest line's parts.
-pub const PARTS: usize = 7;
-
 // Of a row: C; C(F); the change's condition; its range tests; M; S of version 1 and of version 2; F of the row differs from row 1 or 2 (the
 // second?), as that is or after the change (after?).
 #[derive(Clone, Copy)]
@@ -17,17 +14,18 @@ pub enum Claim {
     Differing(bool, bool),
 }
 
+// A claim of the first row or of the second, or what denies it.
 #[derive(Clone, Copy)]
-pub struct Part {
-    pub claim: Claim,
-    pub second: bool,
-    pub denied: bool,
+pub enum Part {
+    First(Claim),
+    Second(Claim),
+    NotFirst(Claim),
+    NotSecond(Claim),
 }
 
-// The first `count` parts; `pairs`: it speaks of two rows.
+// Parts joined by and; `pairs`: it speaks of two rows.
 #[derive(Clone, Copy)]
 pub struct Line {
     pub pairs: bool,
-    pub parts: [Part; PARTS],
-    pub count: usize,
+    pub parts: &'static [Part],
 }

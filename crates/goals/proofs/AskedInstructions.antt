@@ -1,23 +1,20 @@
 -- What is asked of one instruction, taken apart: the same values answer.
-use Prim.Native.Nat.{ℕ, zero, suc, ◌+◌, ◌-◌, ◌≤◌, ◌<◌}
-use mathlib.Core.Path.{◌≡◌, refl, sym, ap, ◌∙◌, subst}
-use mathlib.Core.Logic.{◌⊎◌, inl, inr}
-use mathlib.Core.Bool.{Bool, true, false, not, ◌&&◌, ◌||◌, true≢false}
-use mathlib.Core.List.{List, ◌∷◌}
-use native.Mathlib.Omega.{arith}
+use Rattle.std.proofs.Common.{ℕ, suc, ◌+◌, ◌-◌, ◌≤◌, ◌<◌, ◌≡◌, refl, sym, ap, ◌∙◌, ◌⊎◌, inl, inr, Bool, true, false, not, ◌&&◌, ◌||◌, true≢false, List, ◌∷◌, Result, Ok, Err, arith}
 use Rattle.page_numbers.proofs.Bridge.{ints, +law}
 use Rattle.page_walks.specs.Grid.{Grid, weight}
 use Rattle.page_walks.specs.Walk.{Sat}
 use Rattle.page_formulas.specs.Program.{Values, Place, test}
-use Rattle.page_formulas.specs.Costs.{most_instructions}
-use Rattle.page_sheets.specs.Facts.{taken}
-use Rattle.goals.specs.Closures.{Enters}
 use Rattle.page_formulas.specs.Postfix.{says}
-use Rattle.program_tree.specs.Nodes.{kind_at, size_at, first_at, place_in, Made, LaidRows, Describes}
-use Rattle.goals.specs.Goals.{Goal, goal, Same, splitting, unlike, total, Waits, Solves, Standing, Leads, Takes}
-use Rattle.program_tree.specs.Nodes.{Tree}
-use Rattle.page_sheets.proofs.Descent.{taken_fact, fact_taken}
 use Rattle.page_formulas.proofs.Cases.{joint_case, constant_case}
+use Rattle.page_sheets.specs.Facts.{taken}
+use Rattle.page_sheets.proofs.Descent.{taken_fact, fact_taken}
+use Rattle.facts.specs.Decisions.{fact_of}
+use Rattle.program_tree.specs.declared.types.Tree.{Tree}
+use Rattle.program_tree.specs.Nodes.{kind_at, size_at, first_at, place_in, Made, LaidRows, Describes}
+use Rattle.goals.specs.declared.types.Contradiction.{Contradiction}
+use Rattle.goals.specs.declared.types.Goal.{Goal}
+use Rattle.goals.specs.Closures.{Enters}
+use Rattle.goals.specs.Goals.{goal, Same, splitting, unlike, total, Waits, Solves, Standing, Leads, Shut, Takes}
 
 -- ---- truths
 
@@ -91,19 +88,8 @@ constant_is = constant_case (λ k. (want t a b : Bool) → unlike k want ≡ fal
 constant_isnt : (k : ℕ) → 4 ≤ k → (want t a b : Bool) → unlike k want ≡ true → says k t a b ≡ want → ⊥
 constant_isnt = constant_case (λ k. (want t a b : Bool) → unlike k want ≡ true → says k t a b ≡ want → ⊥) (λ want t a b u e. true≢false (e ∙ not_wanted want true u)) (λ k want t a b u e. true≢false (sym u ∙ sym e))
 
--- the code's tests
-pub splits_other : (k : ℕ) (want : Bool) → ¬ (k ≡ 1) → want ≡ splitting k want
-splits_other zero want f = refl
-splits_other (suc zero) want f = absurd (f refl)
-splits_other (suc (suc k)) want f = refl
-
-pub fails_other : (k : ℕ) (want : Bool) → ¬ (k ≡ 4) → want ≡ unlike k want
-fails_other zero want f = refl
-fails_other (suc zero) want f = refl
-fails_other (suc (suc zero)) want f = refl
-fails_other (suc (suc (suc zero))) want f = refl
-fails_other (suc (suc (suc (suc zero)))) want f = absurd (f refl)
-fails_other (suc (suc (suc (suc (suc k))))) want f = refl
+abbrev Answer : Type 0
+Answer = Result (Unit {0}) Contradiction
 
 module _ (t : Tree) where
   -- ---- one thing after another
@@ -112,21 +98,17 @@ module _ (t : Tree) where
   leads_self near gs s = record { standing = s; less = omega arith; old = λ x h. h; same = λ v d x. (λ y. y, λ y. y) }
 
   -- other goals with the same values, and no more of them
-  pub takes_same : (near : Grid) (A B : List Goal) → total t B ≤ total t A → ((v : Values → ℕ → Bool) → Describes t v → Same (Solves t v near A) (Solves t v near B)) → (closed : Bool) (near' : Grid) (C : List Goal) → Takes t near B closed near' C → Takes t near A closed near' C
-  takes_same near A B l e true near' C n = λ v d x s. n v d x ((e v d x).0 s)
-  takes_same near A B l e false near' C n = record { standing = n.standing; less = omega (arith, n.less); old = n.old; same = λ v d x. (λ s. (n.same v d x).0 ((e v d x).0 s), λ s. (e v d x).1 ((n.same v d x).1 s)) }
+  pub takes_same : (near : Grid) (A B : List Goal) → total t B ≤ total t A → ((v : Values → ℕ → Bool) → Describes t v → Same (Solves t v near A) (Solves t v near B)) → (answer : Answer) (near' : Grid) (C : List Goal) → Takes t near B answer near' C → Takes t near A answer near' C
+  takes_same near A B l e (Err c) near' C n = λ v d x s. n v d x ((e v d x).0 s)
+  takes_same near A B l e (Ok u) near' C n = record { standing = n.standing; less = omega (arith, n.less); old = n.old; same = λ v d x. (λ s. (n.same v d x).0 ((e v d x).0 s), λ s. (e v d x).1 ((n.same v d x).1 s)) }
 
-  pub takes_then : (near : Grid) (A : List Goal) (near' : Grid) (B : List Goal) → Leads t near A near' B → (closed : Bool) (near'' : Grid) (C : List Goal) → Takes t near' B closed near'' C → Takes t near A closed near'' C
-  takes_then near A near' B w true near'' C n = λ v d x s. n v d x ((w.same v d x).0 s)
-  takes_then near A near' B w false near'' C n = record { standing = n.standing; less = omega (arith, n.less, w.less); old = λ x h. w.old x (n.old x h); same = λ v d x. (λ s. (n.same v d x).0 ((w.same v d x).0 s), λ s. (w.same v d x).1 ((n.same v d x).1 s)) }
-
-  -- the same goal, as the code has it
-  pub takes_as : (near : Grid) (gs : List Goal) (j k : ℕ) (d e : Bool) → j ≡ k → d ≡ e → (closed : Bool) (near' : Grid) (gs' : List Goal) → Takes t near (goal j d ∷ gs) closed near' gs' → Takes t near (goal k e ∷ gs) closed near' gs'
-  takes_as near gs j k d e p q closed near' gs' n = subst (λ m. Takes t near (goal m e ∷ gs) closed near' gs') p (subst (λ m. Takes t near (goal j m ∷ gs) closed near' gs') q n)
+  pub takes_then : (near : Grid) (A : List Goal) (near' : Grid) (B : List Goal) → Leads t near A near' B → (answer : Answer) (near'' : Grid) (C : List Goal) → Takes t near' B answer near'' C → Takes t near A answer near'' C
+  takes_then near A near' B w (Err c) near'' C n = λ v d x s. n v d x ((w.same v d x).0 s)
+  takes_then near A near' B w (Ok u) near'' C n = record { standing = n.standing; less = omega (arith, n.less, w.less); old = λ x h. w.old x (n.old x h); same = λ v d x. (λ s. (n.same v d x).0 ((w.same v d x).0 s), λ s. (w.same v d x).1 ((n.same v d x).1 s)) }
 
   -- with one goal more on both sides
-  pub takes_more : (g : Goal) (near : Grid) (A : List Goal) (near' : Grid) (B : List Goal) → Leads t near A near' B → (closed : Bool) (near'' : Grid) (C : List Goal) → Takes t near' (g ∷ B) closed near'' C → Takes t near (g ∷ A) closed near'' C
-  takes_more g near A near' B w closed near'' C n = go closed n
+  pub takes_more : (g : Goal) (near : Grid) (A : List Goal) (near' : Grid) (B : List Goal) → Leads t near A near' B → (answer : Answer) (near'' : Grid) (C : List Goal) → Takes t near' (g ∷ B) answer near'' C → Takes t near (g ∷ A) answer near'' C
+  takes_more g near A near' B w answer near'' C n = go answer n
     where
       on : (v : Values → ℕ → Bool) → Describes t v → (x : Values) → Solves t v near (g ∷ A) x → Solves t v near' (g ∷ B) x
       on v d x s = let r = (w.same v d x).0 (record { at_zero = s.at_zero; sat = s.sat; met = s.met.1 }) in record { at_zero = r.at_zero; sat = r.sat; met = (s.met.0, r.met) }
@@ -134,9 +116,9 @@ module _ (t : Tree) where
       back : (v : Values → ℕ → Bool) → Describes t v → (x : Values) → Solves t v near' (g ∷ B) x → Solves t v near (g ∷ A) x
       back v d x s = let r = (w.same v d x).1 (record { at_zero = s.at_zero; sat = s.sat; met = s.met.1 }) in record { at_zero = r.at_zero; sat = r.sat; met = (s.met.0, r.met) }
 
-      go : (closed : Bool) → Takes t near' (g ∷ B) closed near'' C → Takes t near (g ∷ A) closed near'' C
-      go true n = λ v d x s. n v d x (on v d x s)
-      go false n = record { standing = n.standing; less = omega (arith, n.less, w.less); old = λ x h. w.old x (n.old x h); same = λ v d x. (λ s. (n.same v d x).0 (on v d x s), λ s. back v d x ((n.same v d x).1 s)) }
+      go : (answer : Answer) → Takes t near' (g ∷ B) answer near'' C → Takes t near (g ∷ A) answer near'' C
+      go (Err c) n = λ v d x s. n v d x (on v d x s)
+      go (Ok u) n = record { standing = n.standing; less = omega (arith, n.less, w.less); old = λ x h. w.old x (n.old x h); same = λ v d x. (λ s. (n.same v d x).0 (on v d x s), λ s. back v d x ((n.same v d x).1 s)) }
 
   -- ---- one instruction
   module _ (near : Grid) (gs : List Goal) (i : ℕ) (want : Bool) (s : Standing t near gs) (h : i < t.count) where
@@ -159,12 +141,12 @@ module _ (t : Tree) where
       not_told : k ≡ 3 → v x i ≡ not (v x (i - 1))
       not_told e = d.told x i h ∙ ap (λ m. says m (test x (place_in t i)) (v x (first_at t i)) (v x (i - 1))) e
 
-    pub demand_place : k ≡ 0 → (closed : Bool) (r : Grid) → Enters (suc t.last) near q.right q.left q.most closed r → Takes t near (g ∷ gs) closed r gs
+    pub demand_place : k ≡ 0 → (answer : Answer) (r : Grid) → Enters (suc t.last) near (fact_of (place_in t i) want) answer r → Takes t near (g ∷ gs) answer r gs
     unfolding Sat
-    demand_place e true r c = λ v d x n.
+    demand_place e (Err o) r c = λ v d x n.
         let f = (node.place e).facts want in let w = taken_fact x (place_in t i) want (sym (place_told v d x e) ∙ n.met.0) in
         omega (ints, w, n.sat q.left q.right f.to_is f.from_is, c, +law (x q.right) q.most, +law (x q.left) (weight near q.left q.right), +law (weight near q.left q.right) q.most)
-    demand_place e false r c = record {
+    demand_place e (Ok u) r c = record {
       standing = record { laid = s.laid; table = c.sized; tight = c.tight; waiting = s.waiting; enough = s.enough };
       less = omega arith;
       old = c.old;
@@ -174,23 +156,25 @@ module _ (t : Tree) where
       );
     }
 
-    pub demand_constant : 4 ≤ k → (closed : Bool) → closed ≡ unlike k want → Takes t near (g ∷ gs) closed near gs
-    demand_constant e true u = λ v d x n. constant_isnt k e want (test x (place_in t i)) (v x (first_at t i)) (v x (i - 1)) (sym u) (sym (d.told x i h) ∙ n.met.0)
-    demand_constant e false u = record {
+    pub constant_shut : 4 ≤ k → unlike k want ≡ true → Shut t near (g ∷ gs)
+    constant_shut e u = λ v d x n. constant_isnt k e want (test x (place_in t i)) (v x (first_at t i)) (v x (i - 1)) u (sym (d.told x i h) ∙ n.met.0)
+
+    pub constant_met : 4 ≤ k → unlike k want ≡ false → Leads t near (g ∷ gs) near gs
+    constant_met e u = record {
       standing = s;
       less = omega arith;
       old = λ x n. n;
       same = λ v d x. (
         λ n. record { at_zero = n.at_zero; sat = n.sat; met = n.met.1 },
-        λ n. record { at_zero = n.at_zero; sat = n.sat; met = (d.told x i h ∙ constant_is k e want (test x (place_in t i)) (v x (first_at t i)) (v x (i - 1)) (sym u), n.met) },
+        λ n. record { at_zero = n.at_zero; sat = n.sat; met = (d.told x i h ∙ constant_is k e want (test x (place_in t i)) (v x (first_at t i)) (v x (i - 1)) u, n.met) },
       );
     }
 
-    pub demand_not : k ≡ 3 → (closed : Bool) (r : Grid) (gs' : List Goal) → Takes t near (goal (i - 1) (not want) ∷ gs) closed r gs' → Takes t near (g ∷ gs) closed r gs'
-    demand_not e closed r gs' n = takes_same near (g ∷ gs) (goal (i - 1) (not want) ∷ gs) (omega (arith, (node.one e).1)) (λ v d x. (
+    pub demand_not : k ≡ 3 → (answer : Answer) (r : Grid) (gs' : List Goal) → Takes t near (goal (i - 1) (not want) ∷ gs) answer r gs' → Takes t near (g ∷ gs) answer r gs'
+    demand_not e answer r gs' n = takes_same near (g ∷ gs) (goal (i - 1) (not want) ∷ gs) (omega (arith, (node.one e).1)) (λ v d x. (
       λ n. record { at_zero = n.at_zero; sat = n.sat; met = (not_wanted (v x (i - 1)) want (sym (not_told v d x e) ∙ n.met.0), n.met.1) },
       λ n. record { at_zero = n.at_zero; sat = n.sat; met = (not_told v d x e ∙ wanted_not (v x (i - 1)) want n.met.0, n.met.1) },
-    )) closed r gs' n
+    )) answer r gs' n
 
     -- ---- two operands
     module _ (l : 0 < k) (m : k < 3) where
@@ -200,24 +184,18 @@ module _ (t : Tree) where
       abbrev b : ℕ
       b = i - 1
 
-      pub waits : splitting k want ≡ true → Waits t g
-      waits e = record { in_tree = h; kind_low = l; kind_high = m; splits = e }
-
-      pub demand_waits : splitting k want ≡ true → size_at t i + total t gs ≤ most_instructions → Takes t near (g ∷ gs) false near (g ∷ gs)
-      demand_waits e f = leads_self near (g ∷ gs) (record { laid = s.laid; table = s.table; tight = s.tight; waiting = (waits e, s.waiting); enough = f })
-
       -- both are needed
-      pub both_same : splitting k want ≡ false → (closed : Bool) (r : Grid) (gs' : List Goal) → Takes t near (goal b want ∷ goal a want ∷ gs) closed r gs' → Takes t near (g ∷ gs) closed r gs'
-      both_same e closed r gs' n = takes_same near (g ∷ gs) (goal b want ∷ goal a want ∷ gs) (omega (arith, (node.two l m).1)) (λ v d x. (
+      pub both_same : splitting k want ≡ false → (answer : Answer) (r : Grid) (gs' : List Goal) → Takes t near (goal b want ∷ goal a want ∷ gs) answer r gs' → Takes t near (g ∷ gs) answer r gs'
+      both_same e answer r gs' n = takes_same near (g ∷ gs) (goal b want ∷ goal a want ∷ gs) (omega (arith, (node.two l m).1)) (λ v d x. (
         λ n. let j = both_on k l m want (test x (place_in t i)) (v x a) (v x b) e (sym (d.told x i h) ∙ n.met.0) in record { at_zero = n.at_zero; sat = n.sat; met = (j.1, (j.0, n.met.1)) },
         λ n. record { at_zero = n.at_zero; sat = n.sat; met = (d.told x i h ∙ both_back k l m want (test x (place_in t i)) (v x a) (v x b) n.met.1.0 n.met.0, n.met.1.1) },
-      )) closed r gs' n
+      )) answer r gs' n
 
-      pub first_closed : splitting k want ≡ false → (r : Grid) (gs' : List Goal) → Takes t near (goal a want ∷ gs) true r gs' → Takes t near (g ∷ gs) true r gs'
-      first_closed e r gs' n = both_same e true r gs' (λ v d x w. n v d x (record { at_zero = w.at_zero; sat = w.sat; met = w.met.1 }))
+      pub first_shut : splitting k want ≡ false → Shut t near (goal a want ∷ gs) → Shut t near (g ∷ gs)
+      first_shut e n = λ v d x w. let j = both_on k l m want (test x (place_in t i)) (v x a) (v x b) e (sym (d.told x i h) ∙ w.met.0) in n v d x (record { at_zero = w.at_zero; sat = w.sat; met = (j.0, w.met.1) })
 
-      pub demand_both : splitting k want ≡ false → (near' : Grid) (B : List Goal) → Leads t near (goal a want ∷ gs) near' B → (closed : Bool) (r : Grid) (gs' : List Goal) → Takes t near' (goal b want ∷ B) closed r gs' → Takes t near (g ∷ gs) closed r gs'
-      demand_both e near' B w closed r gs' n = both_same e closed r gs' (takes_more (goal b want) near (goal a want ∷ gs) near' B w closed r gs' n)
+      pub demand_both : splitting k want ≡ false → (near' : Grid) (B : List Goal) → Leads t near (goal a want ∷ gs) near' B → (answer : Answer) (r : Grid) (gs' : List Goal) → Takes t near' (goal b want ∷ B) answer r gs' → Takes t near (g ∷ gs) answer r gs'
+      demand_both e near' B w answer r gs' n = both_same e answer r gs' (takes_more (goal b want) near (goal a want ∷ gs) near' B w answer r gs' n)
 
   -- ---- a goal of which one operand is enough
   module _ (laid : LaidRows t) (g : Goal) (w : Waits t g) where

@@ -1,5 +1,5 @@
 -- What the tableau is asked: parts of a formula that are wanted true or false, under the facts so far.
-use Rattle.std.specs.Prelude.{ℕ, zero, suc, ◌+◌, ◌-◌, ◌≤◌, ◌<◌, ◌≡◌, Bool, true, false, not, cond, List, [], ◌∷◌, ltb, get_or, ℤ, pos}
+use Rattle.std.specs.Prelude.{ℕ, zero, suc, ◌+◌, ◌≤◌, ◌<◌, ◌≡◌, Bool, true, false, not, List, [], ◌∷◌, get_or, Option, Some, None, Result, Ok, Err, ℤ, pos}
 use Rattle.page_meaning.specs.Limits.{most_vertices}
 use Rattle.page_walks.specs.Grid.{Grid, weight}
 use Rattle.page_walks.specs.Sizes.{Sized}
@@ -9,34 +9,27 @@ use Rattle.page_formulas.specs.Vertices.{InRange}
 use Rattle.page_formulas.specs.Formulas.{Formula}
 use Rattle.page_formulas.specs.Costs.{most_instructions}
 use Rattle.goals.specs.Closures.{Tight}
-use Rattle.program_tree.specs.Nodes.{Tree, kind_at, size_at, LaidRows, Describes}
-
--- a part of the formula, by its instruction, that is wanted true or false
-pub record Goal : Type 0 where
-  pub at : ℕ
-  pub want : Bool
+use Rattle.program_tree.specs.declared.types.Tree.{Tree}
+use Rattle.program_tree.specs.Nodes.{kind_at, size_at, LaidRows, Describes}
+use Rattle.goals.specs.declared.types.Contradiction.{Contradiction}
+use Rattle.goals.specs.declared.types.Goal.{Goal}
+use Rattle.goals.specs.declared.types.State.{State}
 
 abbrev pub goal : ℕ → Bool → Goal
 goal a d = record { at = a; want = d }
 
--- as one number: past all instructions where it is wanted true
-abbrev pub coded : ℕ → Bool → ℕ
-coded a true = a + most_instructions
-coded a false = a
+-- past the end of the goals
+abbrev pub no_goal : Goal
+no_goal = goal 0 false
 
-unfoldable pub at_of : ℕ → ℕ
-at_of g = cond (ltb g most_instructions) g (g - most_instructions)
-
-unfoldable pub want_of : ℕ → Bool
-want_of g = not (ltb g most_instructions)
-
-abbrev pub goal_of : ℕ → Goal
-goal_of g = goal (at_of g) (want_of g)
-
--- the goals that the first h entries hold, the last first
-unfoldable pub stack_of : List ℕ → ℕ → List Goal
+-- the first h goals, the last first
+unfoldable pub stack_of : List Goal → ℕ → List Goal
 stack_of goals zero = []
-stack_of goals (suc h) = goal_of (get_or goals h 0) ∷ stack_of goals h
+stack_of goals (suc h) = get_or goals h no_goal ∷ stack_of goals h
+
+-- those that wait
+abbrev pub waiting : State → List Goal
+waiting s = stack_of s.goals s.count
 
 abbrev pub Each : (Goal → Type 0) → List Goal → Type 0
 Each P [] = Unit {0}
@@ -51,9 +44,9 @@ abbrev pub held : List ℤ → Values
 held l v = get_or l v (pos 0)
 
 -- whether there are such values, with the values where there are
-abbrev pub Opens : Bool → List ℤ → (Values → Type 0) → Type 0
-Opens true l S = S (held l)
-Opens false l S = (x : Values) → ¬ S x
+abbrev pub Opens : Option (List ℤ) → (Values → Type 0) → Type 0
+Opens (Some l) S = S (held l)
+Opens None S = (x : Values) → ¬ S x
 
 -- the same values answer both
 abbrev pub Same : (Values → Type 0) → (Values → Type 0) → Type 0
@@ -121,12 +114,33 @@ module _ (t : Tree) where
     pub old : (x : Values) → Sat (weight near') (suc t.last) x → Sat (weight near) (suc t.last) x
     pub same : (v : Values → ℕ → Bool) → Describes t v → Same (Solves v near gs) (Solves v near' gs')
 
-  -- the goals contradict the facts; or they lead on
-  abbrev pub Takes : Grid → List Goal → Bool → Grid → List Goal → Type 0
-  Takes near gs true near' gs' = (v : Values → ℕ → Bool) → Describes t v → (x : Values) → ¬ Solves v near gs x
-  Takes near gs false near' gs' = Leads near gs near' gs'
+  -- the goals contradict the facts
+  abbrev pub Shut : Grid → List Goal → Type 0
+  Shut near gs = (v : Values → ℕ → Bool) → Describes t v → (x : Values) → ¬ Solves v near gs x
 
-  -- the same, and where something moved there is less to do
-  pub record Sifts (near : Grid) (gs : List Goal) (closed moved : Bool) (near' : Grid) (gs' : List Goal) : Type 0 where
-    pub takes : Takes near gs closed near' gs'
-    pub falls : closed ≡ false → moved ≡ true → total gs' < total gs
+  -- they do; or they lead on
+  abbrev pub Takes : Grid → List Goal → Result (Unit {0}) Contradiction → Grid → List Goal → Type 0
+  Takes near gs (Err c) near' gs' = Shut near gs
+  Takes near gs (Ok u) near' gs' = Leads near gs near' gs'
+
+  -- they lead on, and where something moved there is less to do
+  pub record Sifted (near : Grid) (gs : List Goal) (moved : Bool) (near' : Grid) (gs' : List Goal) : Type 0 where
+    pub leads : Leads near gs near' gs'
+    pub falls : moved ≡ true → total gs' < total gs
+
+  abbrev pub Sifts : Grid → List Goal → Result Bool Contradiction → Grid → List Goal → Type 0
+  Sifts near gs (Err c) near' gs' = Shut near gs
+  Sifts near gs (Ok moved) near' gs' = Sifted near gs moved near' gs'
+
+  -- the same of states: of gs, under the facts of one, the other is left
+  abbrev pub Leaves : State → List Goal → Result (Unit {0}) Contradiction → State → Type 0
+  Leaves s gs answer left = Takes s.near.rows gs answer left.near.rows (waiting left)
+
+  abbrev pub LeavesLess : State → List Goal → Result Bool Contradiction → State → Type 0
+  LeavesLess s gs moved left = Sifts s.near.rows gs moved left.near.rows (waiting left)
+
+  -- instruction i can be asked for beside those that wait
+  pub record Asks (s : State) (i : ℕ) : Type 0 where
+    pub standing : Standing s.near.rows (waiting s)
+    pub in_tree : i < t.count
+    pub enough : size_at t i + total (waiting s) ≤ most_instructions

@@ -1,75 +1,56 @@
 // A part of the formula that is wanted true or false is taken apart as far as there is no choice.
-ghost use Rattle.std.specs.Prelude.{◌+◌, ◌≤◌, ◌<◌, ◌≡◌, ◌∷◌, length};
-ghost use Rattle.page_formulas.specs.Costs.{most_instructions};
-ghost use Rattle.program_tree.specs.Nodes.{tree_of, size_at};
-ghost use Rattle.goals.specs.Goals.{splitting, unlike, stack_of, total, Standing, Takes};
-ghost use Rattle.goals.specs.Goals as goals;
+ghost use Rattle.std.specs.Prelude.{◌≡◌, ◌∷◌};
+ghost use Rattle.program.specs.Meanings.{number_of};
+ghost use Rattle.goals.specs.Goals.{goal, splitting, unlike, waiting, Asks, Leaves};
 
-use crate::entering::enter_place;
-use crate::goals::goal;
-use crate::types::Taken;
-use limits::{INSTRUCTIONS, VERTICES};
-use program_tree::operands::{edge_of, first_of, kind_of};
-use program_tree::types::{Extent, ROW};
+use crate::entering::enter;
+use crate::types::{Contradiction, Goal, State};
+use facts::added;
+use program::types::Instruction;
+use program_tree::types::Tree;
 
 // Is one operand enough: an or that is wanted true, an and that is wanted false?
-fn splits(kind: u16, want: bool) -> bool
-    ensures { result ≡ splitting kind want }
+fn splits(instruction: Instruction, want: bool) -> bool
+    ensures { result ≡ splitting (number_of instruction) want }
 {
-    if kind == 1 {
-        return !want;
+    match instruction {
+        Instruction::And => !want,
+        _ => want,
     }
-    want
 }
 
-// Is a constant (4 true, 5 false) other than wanted?
-fn fails(kind: u16, want: bool) -> bool
-    ensures { result ≡ unlike kind want }
+// Is a constant other than wanted?
+fn fails(instruction: Instruction, want: bool) -> bool
+    ensures { result ≡ unlike (number_of instruction) want }
 {
-    if kind == 4 {
-        return !want;
+    match instruction {
+        Instruction::True => !want,
+        _ => want,
     }
-    want
 }
 
 // Its places enter the facts; what needs a choice waits.
-pub fn demand(
-    nodes: &[[u16; ROW]; INSTRUCTIONS],
-    most: &[i64; INSTRUCTIONS],
-    ext: Extent,
-    near: &mut [[i64; VERTICES]; VERTICES],
-    waiting: &mut [u16; INSTRUCTIONS],
-    n: usize,
-    i: usize,
-    want: bool,
-) -> Taken
-    requires { Standing (tree_of nodes.now most.now ext) near.old (stack_of waiting.old n) × (i < ext.count) × (size_at (tree_of nodes.now most.now ext) i + total (tree_of nodes.now most.now ext) (stack_of waiting.old n) ≤ most_instructions) × (length waiting.old ≡ most_instructions) }
-    ensures { Takes (tree_of nodes.now most.now ext) near.old (goals.goal i want ∷ stack_of waiting.old n) result.closed near.new (stack_of waiting.new result.count) × (length waiting.new ≡ most_instructions) }
+pub fn demand(tree: &Tree, state: &mut State, i: usize, want: bool) -> Result<(), Contradiction>
+    requires { Asks tree.now state.old i }
+    ensures { Leaves tree.now state.old (goal i want ∷ waiting state.old) result state.new }
 {
-    let kind = kind_of(nodes, i);
-    if kind == 0 {
-        let q = edge_of(nodes, most, i);
-        let closed = enter_place(near, ext.last, q.left, q.right, q.most, want);
-        return Taken { closed, count: n };
+    let node = tree.nodes[i];
+    match node.instruction {
+        Instruction::Place => enter(&mut state.near, tree.last, added(node.place, want)),
+        Instruction::True | Instruction::False => {
+            if fails(node.instruction, want) {
+                return Err(Contradiction);
+            }
+            Ok(())
+        }
+        Instruction::Not => demand(tree, state, i - 1, !want),
+        Instruction::And | Instruction::Or => {
+            if splits(node.instruction, want) {
+                state.push(Goal { at: i as u16, want });
+                return Ok(());
+            }
+            demand(tree, state, tree.first_of(i), want)?;
+            demand(tree, state, i - 1, want)
+        }
     }
-    if 4 <= kind {
-        let closed = fails(kind, want);
-        return Taken { closed, count: n };
-    }
-    if kind == 3 {
-        return demand(nodes, most, ext, near, waiting, n, i - 1, !want);
-    }
-    if splits(kind, want) {
-        waiting[n] = goal(i, want);
-        return Taken {
-            closed: false,
-            count: n + 1,
-        };
-    }
-    let first = first_of(nodes, i);
-    let r = demand(nodes, most, ext, near, waiting, n, first, want);
-    if r.closed {
-        return r;
-    }
-    demand(nodes, most, ext, near, waiting, r.count, i - 1, want)
 }

@@ -3,5 +3,5 @@
 
 pub mod demands;
 pub mod entering;
-pub mod goals;
+pub mod states;
 pub mod types;

@@ -1,8 +1,22 @@
 // The declared types.
+use grid::Grid;
+use limits::INSTRUCTIONS;
 
-// Facts that contradict each other, or so many goals that wait.
+// A part of the formula, by its instruction, that is wanted true or false.
 #[derive(Clone, Copy)]
-pub struct Taken {
-    pub closed: bool,
+pub struct Goal {
+    pub at: u16,
+    pub want: bool,
+}
+
+// Facts, and goals that wait: the first `count`.
+#[derive(Clone, Copy)]
+pub struct State {
+    pub near: Grid,
+    pub goals: [Goal; INSTRUCTIONS],
     pub count: usize,
 }
+
+// What is wanted contradicts the facts.
+#[derive(Clone, Copy, Debug, PartialEq, Eq)]
+pub struct Contradiction;

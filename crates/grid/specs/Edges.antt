@@ -2,8 +2,8 @@
 use Rattle.std.specs.Prelude.{ℕ, suc, ◌≤◌, ◌<◌, ℤ, ◌≤ℤ◌}
 use Rattle.page_numbers.specs.Numbers.{up, dn}
 use Rattle.page_meaning.specs.Limits.{most_vertices}
-use Rattle.page_walks.specs.Grid.{Grid, weight, far}
-use Rattle.page_walks.specs.Sizes.{least_weight, Sized}
+use Rattle.page_walks.specs.Grid.{Grid, weight, far, far_n}
+use Rattle.page_walks.specs.Sizes.{least_weight, Sized, AllWithin}
 
 -- a fact between vertices up to the last, with a small weight
 pub record Fact (last from to : ℕ) (k : ℤ) : Type 0 where
@@ -17,3 +17,9 @@ pub record Kept (g : Grid) : Type 0 where
   pub sized : Sized most_vertices g
   pub ceiling : (u v : ℕ) → weight g u v ≤ℤ far
   pub floor : (u v : ℕ) → dn (weight g u v) ≤ least_weight
+
+-- the weights between the first n vertices are so small that sums along walks are exact
+pub record Summable (n : ℕ) (g : Grid) : Type 0 where
+  pub some : 0 < n
+  pub few : n ≤ most_vertices
+  pub within : AllWithin far_n n g

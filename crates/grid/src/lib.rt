@@ -7,95 +7,101 @@ ghost use Rattle.page_numbers.specs.Numbers.{min_z};
 ghost use Rattle.page_meaning.specs.Limits.{most_vertices};
 ghost use Rattle.page_walks.specs.Grid.{blank, weight, tighten, far_n};
 ghost use Rattle.page_walks.specs.Sizes.{Sized, AllWithin};
-ghost use Rattle.grid.specs.Facts.{with_fact};
 
 use limits::VERTICES;
 
 // The weight of a missing edge.
 pub const FAR: i64 = 1099511627776;
 
-// No fact at all: every edge is missing.
-pub fn blank() -> [[i64; VERTICES]; VERTICES]
-    ensures { result ≡ blank most_vertices }
-{
-    [[FAR; VERTICES]; VERTICES]
-}
-
-// The weight of the edge between two vertices.
-pub fn edge(g: &[[i64; VERTICES]; VERTICES], from: usize, to: usize) -> i64
-    requires { (from < most_vertices) × (to < most_vertices) × Sized most_vertices g.now }
-    ensures { result ≡ weight g.now from to }
-{
-    g[from][to]
-}
-
 pub fn lesser(a: i64, b: i64) -> i64
     ensures { result ≡ min_z a b }
 {
-    if b < a { b } else { a }
+    a.min(b)
 }
 
-// One fact more, as an edge.
+// A fact as an edge.
 #[derive(Clone, Copy)]
-pub struct Added {
+pub struct Edge {
     pub from: usize,
     pub to: usize,
     pub weight: i64,
 }
 
-// One more fact: the grid with one tightened edge.
-pub fn tighten(
-    g: &[[i64; VERTICES]; VERTICES],
-    from: usize,
-    to: usize,
-    k: i64,
-) -> [[i64; VERTICES]; VERTICES]
-    requires { (from < most_vertices) × (to < most_vertices) × Sized most_vertices g.now }
-    ensures { result ≡ tighten g.now from to k }
-{
-    let mut h = *g;
-    enter(&mut h, from, to, k);
-    h
+// Facts: row `from`, entry `to` is the weight of that edge.
+#[derive(Clone, Copy)]
+pub struct Grid {
+    pub rows: [[i64; VERTICES]; VERTICES],
+    pub ghost sized: { Sized most_vertices rows },
 }
 
-// The same in a grid that is still being made.
-pub fn enter(g: &mut [[i64; VERTICES]; VERTICES], from: usize, to: usize, k: i64)
-    requires { (from < most_vertices) × (to < most_vertices) × Sized most_vertices g.old }
-    ensures { g.new ≡ tighten g.old from to k }
-{
-    let least = lesser(g[from][to], k);
-    g[from][to] = least;
-}
+impl Grid {
+    ghost use Rattle.grid.specs.Facts.{with_fact};
 
-// The weight between two vertices where there is one fact more. A leaf looks at a few edges: the grid with the fact isn't made for it.
-fn edge_with(g: &[[i64; VERTICES]; VERTICES], e: Added, u: usize, v: usize) -> i64
-    requires { (u < most_vertices) × (v < most_vertices) × (e.from < most_vertices) × (e.to < most_vertices) × Sized most_vertices g.now }
-    ensures { result ≡ weight (with_fact g.now e) u v }
-{
-    let w = edge(g, u, v);
-    if u != e.from {
-        return w;
+    // No fact at all: every edge is missing.
+    pub fn blank() -> Grid
+        ensures { result.rows ≡ blank most_vertices }
+    {
+        Grid {
+            rows: [[FAR; VERTICES]; VERTICES],
+        }
     }
-    if v != e.to {
-        return w;
-    }
-    lesser(w, e.weight)
-}
 
-// The sum of a closed walk where there is one fact more: along its edges and back to the first vertex.
-pub fn closing(g: &[[i64; VERTICES]; VERTICES], e: Added, vertices: &[u8]) -> i64
-    requires vertices_nonzero { (0 < length vertices.now) × (length vertices.now ≤ most_vertices) × Below most_vertices vertices.now }
-    requires sized { Sized most_vertices g.now × AllWithin far_n most_vertices (with_fact g.now e) × (e.from < most_vertices) × (e.to < most_vertices) }
-    ensures { result ≡ closed (weight (with_fact g.now e)) vertices.now }
-{
-    let n = vertices.len();
-    let first = vertices[0] as usize;
-    let mut at = first;
-    let mut sum: i64 = 0;
-    for i in 1..n {
-        let next = vertices[i] as usize;
-        sum = sum + edge_with(g, e, at, next);
-        at = next;
+    // The weight of the edge between two vertices.
+    pub fn edge(&self, from: usize, to: usize) -> i64
+        requires { (from < most_vertices) × (to < most_vertices) }
+        ensures { result ≡ weight self.now.rows from to }
+    {
+        self.rows[from][to]
     }
-    sum + edge_with(g, e, at, first)
+
+    // One more fact: the grid with one tightened edge.
+    pub fn tighten(&self, e: Edge) -> Grid
+        requires { (e.from < most_vertices) × (e.to < most_vertices) }
+        ensures { result.rows ≡ tighten self.now.rows e.from e.to e.weight }
+    {
+        let mut g = *self;
+        g.enter(e);
+        g
+    }
+
+    // The same in a grid that is still being made.
+    pub fn enter(&mut self, e: Edge)
+        requires { (e.from < most_vertices) × (e.to < most_vertices) }
+        ensures { self.new.rows ≡ tighten self.old.rows e.from e.to e.weight }
+    {
+        let least = lesser(self.rows[e.from][e.to], e.weight);
+        self.rows[e.from][e.to] = least;
+    }
+
+    // The weight between two vertices where there is one fact more. A leaf looks at a few edges: the grid with the fact isn't made for it.
+    fn edge_with(&self, e: Edge, u: usize, v: usize) -> i64
+        requires { (u < most_vertices) × (v < most_vertices) × (e.from < most_vertices) × (e.to < most_vertices) }
+        ensures { result ≡ weight (with_fact self.now.rows e) u v }
+    {
+        let w = self.edge(u, v);
+        if u != e.from {
+            return w;
+        }
+        if v != e.to {
+            return w;
+        }
+        lesser(w, e.weight)
+    }
+
+    // The sum of a closed walk where there is one fact more: along its edges and back to the first vertex.
+    pub fn closing(&self, e: Edge, vertices: &[u8]) -> i64
+        requires walk { (0 < length vertices.now) × (length vertices.now ≤ most_vertices) × Below most_vertices vertices.now }
+        requires edge { (e.from < most_vertices) × (e.to < most_vertices) × AllWithin far_n most_vertices (with_fact self.now.rows e) }
+        ensures { result ≡ closed (weight (with_fact self.now.rows e)) vertices.now }
+    {
+        let first = vertices[0] as usize;
+        let mut at = first;
+        let mut sum: i64 = 0;
+        for v in &vertices[1..] {
+            let next = *v as usize;
+            sum = sum + self.edge_with(e, at, next);
+            at = next;
+        }
+        sum + self.edge_with(e, at, first)
+    }
 }

@@ -1,6 +1,7 @@
 -- The inserted value that a column must have, as the declared question holds it.
 use Prim.Native.Nat.{ℕ, zero, suc, ◌+◌, ◌-◌, ◌≤◌, ◌<◌}
 use mathlib.Core.Path.{◌≡◌, refl, sym, ap, ◌∙◌}
+use mathlib.Core.Logic.{◌⊎◌, inl, inr}
 use mathlib.Core.Option.{Option, none, some}
 use mathlib.Core.List.{List, [], ◌∷◌, ◌++◌, map}
 use native.Mathlib.Omega.{arith}
@@ -83,8 +84,7 @@ module _ (q : Question) (w : Whole q) (i c : ℕ) where
   pub fixed_none : q.change.verb ≡ Insert → q.change.count ≤ i → none ≡ fixed (question_of q) i c
   fixed_none e h = sym (fixed_insert e ∙ ap (λ l. get_or (replicate q.shape.first none ++ map some l) c none) (get_or-eq_default inserted [] (omega (arith, length-map (take q.change.count q.change.rows) (row_of q.shape.width), length-take q.change.count q.change.rows))) ∙ nothing_fixed q.shape.first)
 
-  pub fixed_delete : q.change.verb ≡ Delete → none ≡ fixed (question_of q) i c
-  fixed_delete e = sym (fixed_of ∙ rw e (nothing_fixed q.shape.first))
-
-  pub fixed_modify : q.change.verb ≡ Modify → none ≡ fixed (question_of q) i c
-  fixed_modify e = sym (fixed_of ∙ rw e (nothing_fixed q.shape.first))
+  -- a delete and a modification fix none
+  pub fixed_other : (q.change.verb ≡ Delete) ⊎ (q.change.verb ≡ Modify) → none ≡ fixed (question_of q) i c
+  fixed_other (inl e) = sym (fixed_of ∙ rw e (nothing_fixed q.shape.first))
+  fixed_other (inr e) = sym (fixed_of ∙ rw e (nothing_fixed q.shape.first))

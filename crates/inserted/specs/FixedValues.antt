@@ -1,9 +1,7 @@
--- The value that each case of the answer stands for.
-use Rattle.std.proofs.Math.Option.{Option, none, some}
-use Rattle.std.specs.Prelude.{ℤ}
-use Rattle.inserted.specs.declared.Fixed.{Fixed}
-use Rattle.inserted.specs.declared.Fixed.TheVariants.{Free, At}
+-- The answer as the pages write it.
+use Rattle.std.specs.Prelude.{Option, None, Some, ℤ}
+use Rattle.std.proofs.Math.Option as page
 
-abbrev pub option_of : Fixed → Option ℤ
-option_of Free = none
-option_of (At z) = some z
+abbrev pub option_of : Option ℤ → page.Option ℤ
+option_of None = page.none
+option_of (Some z) = page.some z

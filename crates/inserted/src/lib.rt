@@ -12,56 +12,43 @@ ghost use Rattle.inserted.specs.FixedValues.{option_of};
 use limits::{COLUMNS, ROWS};
 use question::types::{Question, Row, Verb};
 
-// Any value may stand there, or this one only.
-#[derive(Clone, Copy)]
-pub enum Fixed {
-    Free,
-    At(i32),
-}
-
 // One of the inserted rows.
-fn row_at(rows: [Row; ROWS], count: usize, i: usize) -> Row
+fn row_at(rows: &[Row; ROWS], count: usize, i: usize) -> &Row
     requires { (i < count) × (count ≤ most_rows) }
-    ensures { (width : ℕ) → row_of width result ≡ get_or (map (row_of width) (take count rows)) i [] }
+    ensures { (width : ℕ) → row_of width result.now ≡ get_or (map (row_of width) (take count rows.now)) i [] }
 {
-    rows[i]
+    &rows[i]
 }
 
 // A row's values, the first of them in column `first`: the one in column c.
-fn row_value(values: [i32; COLUMNS], first: usize, width: usize, c: usize) -> Fixed
+fn row_value(values: &[i32; COLUMNS], first: usize, width: usize, c: usize) -> Option<i32>
     requires { width ≤ most_columns }
-    ensures { option_of result ≡ get_or (replicate first none ++ map some (take width values)) c none }
+    ensures { option_of result ≡ get_or (replicate first none ++ map some (take width values.now)) c none }
 {
     if c < first {
-        return Fixed::Free;
+        return None;
     }
     let j = c - first;
     if width <= j {
-        return Fixed::Free;
+        return None;
     }
-    let z = values[j];
-    Fixed::At(z)
+    Some(values[j])
 }
 
 // Column c of the row of formula i: for insert, the changed table's values are the inserted row's.
-pub fn fixed_at(q: Question, i: usize, c: usize) -> Fixed
-    requires { Whole q }
-    ensures { option_of result ≡ fixed (question_of q) i c }
+pub fn fixed_at(q: &Question, i: usize, c: usize) -> Option<i32>
+    requires { Whole q.now }
+    ensures { option_of result ≡ fixed (question_of q.now) i c }
 {
-    let change = q.change;
-    let verb = change.verb;
-    match verb {
+    match q.change.verb {
         Verb::Insert => {
-            let count = change.count;
+            let count = q.change.count;
             if count <= i {
-                return Fixed::Free;
+                return None;
             }
-            let rows = change.rows;
-            let row = row_at(rows, count, i);
-            let values = row.values;
-            row_value(values, q.shape.first, q.shape.width, c)
+            let row = row_at(&q.change.rows, count, i);
+            row_value(&row.values, q.shape.first, q.shape.width, c)
         }
-        Verb::Delete => Fixed::Free,
-        Verb::Modify => Fixed::Free,
+        Verb::Delete | Verb::Modify => None,
     }
 }

@@ -8,7 +8,7 @@ use lib.ListN.{length, get_or, drop}
 use lib.Seq.{drop-cons}
 use Rattle.page_formulas.specs.Program as P
 use Rattle.program.specs.Built.{Room, Builds}
-use Rattle.program.specs.Formulas.{Program}
+use Rattle.program.specs.declared.types.Program.{Program}
 use Rattle.program.proofs.Emission.{◌then◌, emits_none}
 use Rattle.pieces.specs.Pieces.{Partway}
 

@@ -5,18 +5,17 @@ use mathlib.Core.List.{List, [], ◌∷◌, ◌++◌}
 use Prim.Native.Nat.{ℕ, ◌+◌, ◌-◌, ◌*◌, ◌≤◌, ◌<◌}
 use native.Mathlib.Omega.{arith}
 use lib.ListN.{length, get_or, drop, length-map, length-drop, get_or-map, drop_of_length-le}
-use lib.Seq.{get_or-drop, length-take-le}
+use lib.Seq.{get_or-drop}
 use lib.Dec.{T}
 use Rattle.page_meaning.specs.Limits.{most_columns}
 use Rattle.page_meaning.specs.Contents.{Range, Mode, keep, become, shift}
 use Rattle.page_meaning.specs.Claims.{kept}
 use Rattle.question.specs.Held.{column_of}
-use Rattle.question.specs.declared.types.Column.{Column}
 use Rattle.page_formulas.specs.Program as P
 use Rattle.page_formulas.specs.Compilation as C
 use Rattle.page_formulas.specs.Formulas.{new_term, bounded, bounded_new, bounded_all}
 use Rattle.program.specs.Built.{Room, Builds}
-use Rattle.program.specs.Formulas.{Program}
+use Rattle.program.specs.declared.types.Program.{Program}
 use Rattle.sights.specs.Sights.{no_column, row_of, modes_of, mode_in, sight_of, Usable, no_range}
 use Rattle.pieces.specs.Pieces.{Partway, table_from, bounded_at}
 use Rattle.sights.specs.declared.types.Sight.{Sight}
@@ -39,15 +38,13 @@ no_modes σ [] = refl
 no_modes σ (g ∷ gs) = refl
 
 -- the column tests before j are emitted
-abbrev pub Tests : Sight → List Column → Program → Program → ℕ → Type 0
-Tests s cs p now j =
-    let k = s.modes - j in
-    Partway (4 * most_columns) (2 * most_columns) p now (4 * k) (2 * k) (bounded_all (row_of s) (drop j (table_from s.first cs)) (drop j (modes_of s))) (bounded_all (row_of s) (table_from s.first cs) (modes_of s))
+abbrev pub Tests : Sight → Program → Program → ℕ → Type 0
+Tests s p now j =
+    let k = length (modes_of s) - j in
+    let gs = table_from s.first s.columns.now in
+    Partway (4 * most_columns) (2 * most_columns) p now (4 * k) (2 * k) (bounded_all (row_of s) (drop j gs) (drop j (modes_of s))) (bounded_all (row_of s) gs (modes_of s))
 
 module _ (s : Sight) (u : Usable s) (e : s.moved ≡ true) where
-  pub modes_length : length (modes_of s) ≡ s.modes
-  modes_length = simp length-map (length-take-le s.modes s.settings (omega (arith, u.long, u.inside, u.few)))
-
   -- one column, whatever it ranges over
   module _ (j : ℕ) (g : Range) where
     same_mode : mode_in s (s.first + j) ≡ get_or (modes_of s) j keep
@@ -61,32 +58,32 @@ module _ (s : Sight) (u : Usable s) (e : s.moved ≡ true) where
         ap (λ m. bounded (new_term m (row_of s) (row_of s (s.first + j))) g) same_mode
         ∙ new_bounded (get_or (modes_of s) j keep) (row_of s) (row_of s (s.first + j)) g (sym (ap kept same_mode) ∙ k)
 
-  module _ (cs : List Column) (long : length cs ≡ most_columns) where
-    table_length : s.modes ≤ length (table_from s.first cs)
-    table_length = simp (length-map, length-drop) (omega (arith, long, u.inside, u.few))
+  table_length : length (modes_of s) ≤ length (table_from s.first s.columns.now)
+  table_length = simp (length-map, length-drop) (omega (arith, u.inside))
 
-    range_is : (j : ℕ) → get_or (table_from s.first cs) j no_range ≡ (column_of (get_or cs (s.first + j) no_column)).range
-    range_is j = get_or-map (λ c. (column_of c).range) (drop s.first cs) j no_column ∙ ap (λ c. (column_of c).range) (get_or-drop s.first cs j no_column)
+  range_is : (j : ℕ) → get_or (table_from s.first s.columns.now) j no_range ≡ (column_of (get_or s.columns.now (s.first + j) no_column)).range
+  range_is j = get_or-map (λ c. (column_of c).range) (drop s.first s.columns.now) j no_column ∙ ap (λ c. (column_of c).range) (get_or-drop s.first s.columns.now j no_column)
 
-    module _ (j : ℕ) (h : j < s.modes) where
-      more_tests : bounded_all (row_of s) (drop j (table_from s.first cs)) (drop j (modes_of s)) ≡ bounded_at s j (column_of (get_or cs (s.first + j) no_column)).range ++ bounded_all (row_of s) (drop (j + 1) (table_from s.first cs)) (drop (j + 1) (modes_of s))
-      unfolding bounded_all
-      more_tests =
-          ap₂ (bounded_all (row_of s))
-          (next (table_from s.first cs) j no_range (omega (arith, table_length)))
-          (next (modes_of s) j keep (omega (arith, modes_length)))
-          ∙ ap (λ g. bounded_at s j g ++ bounded_all (row_of s) (drop (j + 1) (table_from s.first cs)) (drop (j + 1) (modes_of s))) (range_is j)
+  module _ (j : ℕ) (h : j < length (modes_of s)) where
+    more_tests : bounded_all (row_of s) (drop j (table_from s.first s.columns.now)) (drop j (modes_of s)) ≡ bounded_at s j (column_of (get_or s.columns.now (s.first + j) no_column)).range ++ bounded_all (row_of s) (drop (j + 1) (table_from s.first s.columns.now)) (drop (j + 1) (modes_of s))
+    unfolding bounded_all
+    more_tests =
+        ap₂ (bounded_all (row_of s))
+        (next (table_from s.first s.columns.now) j no_range (omega (arith, table_length)))
+        (next (modes_of s) j keep h)
+        ∙ ap (λ g. bounded_at s j g ++ bounded_all (row_of s) (drop (j + 1) (table_from s.first s.columns.now)) (drop (j + 1) (modes_of s))) (range_is j)
 
-      module _ {p now : Program} (w : Tests s cs p now j) where
-        pub test_room : Room p (4 * most_columns) (2 * most_columns) → Room now 4 2
-        test_room = piece_room w 4 2 (omega arith) (omega arith)
+    module _ {p now : Program} (w : Tests s p now j) where
+      pub test_room : Room p (4 * most_columns) (2 * most_columns) → Room now 4 2
+      test_room = piece_room w 4 2 (omega arith) (omega arith)
 
-        pub test_more : {after : Program} → Builds now after 4 2 (bounded_at s j (column_of (get_or cs (s.first + j) no_column)).range) → Tests s cs p after (j + 1)
-        test_more b = piece w _ _ _ more_tests (omega arith) (omega arith) b
+      pub test_more : {after : Program} → Builds now after 4 2 (bounded_at s j (column_of (get_or s.columns.now (s.first + j) no_column)).range) → Tests s p after (j + 1)
+      test_more b = piece w _ _ _ more_tests (omega arith) (omega arith) b
 
-    pub tests_begin : {k l : ℕ} (p : Program) → Room p k l → Tests s cs p p 0
-    tests_begin p room = begin (4 * most_columns) (2 * most_columns) _ _ p _ room (omega (arith, u.inside, u.few)) (omega (arith, u.inside, u.few))
+  pub tests_begin : {k l : ℕ} (p : Program) → Room p k l → Tests s p p 0
+  tests_begin p room = begin (4 * most_columns) (2 * most_columns) _ _ p _ room (omega (arith, u.inside, u.few)) (omega (arith, u.inside, u.few))
 
-    pub tests_end : (p now : Program) (j : ℕ) → s.modes ≤ j → Tests s cs p now j → Builds p now (4 * most_columns) (2 * most_columns) (bounded_all (row_of s) (table_from s.first cs) (modes_of s))
-    tests_end p now j h w =
-        finish w (ap (bounded_all (row_of s) (drop j (table_from s.first cs))) (drop_of_length-le (modes_of s) {i = j} (omega (arith, modes_length))) ∙ no_modes (row_of s) (drop j (table_from s.first cs)))
+  pub tests_end : (p now : Program) (j : ℕ) → length (modes_of s) ≤ j → Tests s p now j → Builds p now (4 * most_columns) (2 * most_columns) (bounded_all (row_of s) (table_from s.first s.columns.now) (modes_of s))
+  tests_end p now j h w =
+      let gs = table_from s.first s.columns.now in
+      finish w (ap (bounded_all (row_of s) (drop j gs)) (drop_of_length-le (modes_of s) {i = j} h) ∙ no_modes (row_of s) (drop j gs))

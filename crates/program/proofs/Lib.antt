@@ -1,4 +1,3 @@
 pub mod Emission
-pub mod Weights
 pub mod Loans
 pub mod Ranges

@@ -1,128 +1,77 @@
 -- A compiled formula, lent part by part: it is the formula, it fits, and its weights are small.
-use Prim.Native.Nat.{ℕ, zero, suc, ◌≤◌, ◌<◌}
-use mathlib.Core.Path.{◌≡◌, refl, sym, ap, subst, ◌∙◌}
-use mathlib.Core.Bool.{Bool, true, false}
-use mathlib.Core.Option.{Option, none, some}
-use mathlib.Core.List.{List, [], ◌∷◌, map}
-use native.Mathlib.Omega.{arith}
-use lib.Dec.{T}
-use lib.IntN.{ℤ, pos}
-use lib.ListN.{length, get_or, take, length-map, get_or-map}
-use Rattle.page_meaning.specs.Limits.{most_vertices}
-use Rattle.page_meaning.specs.Contents.{Range}
+use Rattle.std.proofs.Common.{◌≡◌, ℕ, zero, suc, ◌≤◌, ◌<◌, List, [], ◌∷◌, length, get_or, sym, ap, ◌∙◌, arith}
+use Rattle.std.proofs.Math.ListN.{get_or-map, length-map}
+use Rattle.page_meaning.specs.Limits.{most_vertices, most_decisions}
 use Rattle.page_questions.specs.Guarantees.{Every}
-use Rattle.page_walks.specs.Walk.{Below}
-use Rattle.page_walks.specs.Sizes.{least_weight, Bounded}
-use Rattle.page_formulas.specs.Program.{Place, places, Program}
+use Rattle.page_formulas.specs.Program as P
 use Rattle.page_formulas.specs.Kinds.{nowhere}
-use Rattle.page_formulas.specs.Vertices.{Ranges, is_some, present}
-use Rattle.page_formulas.specs.Formulas.{Formula}
+use Rattle.page_formulas.specs.Formulas as F
 use Rattle.page_formulas.specs.Costs.{most_instructions}
-use Rattle.program.specs.Compiled.{Compiled, Spanned, SmallSpans}
-use Rattle.program.specs.Formulas as compiled
-use Rattle.page_formulas.specs.ProperFormulas.{SmallPlace, SmallRange, Proper}
-use Rattle.program.specs.Lent.{Flagged, Lent, Coded, Places, place_at}
+use Rattle.page_formulas.specs.ProperFormulas.{SmallPlace, Proper}
 use Rattle.page_formulas.proofs.Trees.{kinds_length}
 use Rattle.page_sheets.proofs.Fit.{present_below}
+use Rattle.program.specs.Meanings.{number_of, place_of, no_place, instructions_of, places_of}
+use Rattle.program.specs.Built.{Means}
+use Rattle.program.specs.Compiled.{Compiled}
+use Rattle.program.specs.Lent.{Lent, Places, place_at}
+use Rattle.program.specs.declared.types.Instruction.{Instruction}
+use Rattle.program.specs.declared.types.Place.{Place}
+use Rattle.program.specs.declared.types.Program.{Program}
+use Rattle.program.specs.declared.types.Formula.{Formula}
 
--- the places that are lent are the program's
-module _ (p : Program) (ks ls rs : List ℕ) (ms : List ℤ) (lent : Lent p ks ls rs ms) where
-  pub lent_length : length ls ≡ length (places p)
-  lent_length = ap length lent.left ∙ simp length-map
+-- what is lent is as long as the program says, and the places are its places
+module _ (p : P.Program) (ks : List Instruction) (ps : List Place) (lent : Lent p ks ps) where
+  pub lent_instructions : length ks ≡ length p
+  lent_instructions = sym (length-map ks number_of) ∙ ap length lent.instructions ∙ kinds_length p
 
-  pub lent_most : length ms ≡ length (places p)
-  lent_most = ap length lent.most ∙ simp length-map
+  pub lent_length : length ps ≡ length (P.places p)
+  lent_length = sym (length-map ps place_of) ∙ ap length lent.places
 
-  pub lent_place : (i : ℕ) → place_at ls rs ms i ≡ get_or (places p) i nowhere
-  lent_place i = let ps = places p in rw (lent.left, lent.right, lent.most, get_or-map (λ (a : Place). a.left) ps i nowhere, get_or-map (λ (a : Place). a.right) ps i nowhere, get_or-map (λ (a : Place). a.most) ps i nowhere)
+  pub lent_place : (i : ℕ) → place_at ps i ≡ get_or (P.places p) i nowhere
+  lent_place i = sym (get_or-map place_of ps i no_place) ∙ ap (λ l. get_or l i nowhere) lent.places
+
+pub means_lent : {r : Program} {x : P.Program} → Means r x → Lent x (instructions_of r) (places_of r)
+means_lent m = record { instructions = m.instructions; places = m.places }
 
 -- the parts that are lent are as long as is said
-pub kinds_long : {F : Formula} {kinds : List ℕ} {n : ℕ} {left right : List ℕ} {most : List ℤ} {few : ℕ} → Coded F kinds n left right most few → length (take n kinds) ≡ n
-kinds_long {F} c = ap length c.lent.kinds ∙ kinds_length F.program ∙ sym c.n_is
+pub instructions_long : {r : Program} {x : P.Program} → Means r x → length (instructions_of r) ≡ r.length
+instructions_long {r} {x} m = lent_instructions x (instructions_of r) (places_of r) (means_lent m) ∙ sym m.counted
 
-pub places_long : {F : Formula} {kinds : List ℕ} {n : ℕ} {left right : List ℕ} {most : List ℤ} {few : ℕ} → Coded F kinds n left right most few → (length (take few left) ≡ few) × (length (take few right) ≡ few) × (length (take few most) ≡ few)
-places_long {F} c =
-    let ps = places F.program in
-    let d = sym c.few_is in (
-      ap length c.lent.left ∙ length-map ps (λ a. a.left) ∙ d,
-      ap length c.lent.right ∙ length-map ps (λ a. a.right) ∙ d,
-      ap length c.lent.most ∙ length-map ps (λ a. a.most) ∙ d,
-    )
+pub places_long : {r : Program} {x : P.Program} → Means r x → length (places_of r) ≡ r.decisions
+places_long {r} {x} m = lent_length x (instructions_of r) (places_of r) (means_lent m) ∙ sym m.decided
 
-below_places : (rs : Ranges) (f : Place → ℕ) (ps : List Place) → length rs < most_vertices → Every (λ p. T (present rs (f p))) ps → Below most_vertices (map f ps)
-below_places rs f [] h a = tt
-below_places rs f (p ∷ ps) h a = (omega (arith, present_below rs (f p) a.0), below_places rs f ps h a.1)
+-- what holds of each place of a list holds at each number
+every_at : {A : Type 0} (Q : A → Type 0) (l : List A) (d : A) → Every Q l → (i : ℕ) → i < length l → Q (get_or l i d)
+every_at Q [] d a i h = absurd (omega arith)
+every_at Q (x ∷ l) d a zero h = a.0
+every_at Q (x ∷ l) d a (suc i) h = every_at Q l d a.1 i (omega arith)
 
-every_to : {A : Type 0} (P Q : A → Type 0) (l : List A) → ((a : A) → P a → Q a) → Every P l → Every Q l
-every_to P Q [] f a = tt
-every_to P Q (x ∷ l) f a = (f x a.0, every_to P Q l f a.1)
-
-small_most : (rs : Ranges) (ps : List Place) → Every (SmallPlace rs) ps → (i : ℕ) → i < length (map (λ a. a.most) ps) → Bounded least_weight (get_or (map (λ a. a.most) ps) i (pos 0))
-small_most rs [] a i h = absurd (omega arith)
-small_most rs (p ∷ ps) a zero h = record { high = omega (arith, a.0.high); low = omega (arith, a.0.low) }
-small_most rs (p ∷ ps) a (suc i) h = small_most rs ps a.1 i (omega arith)
-
-small_range : (rs : Ranges) → Every SmallRange rs → (k : ℕ) (g : Range) → get_or rs k none ≡ some g → Bounded least_weight g.lo × Bounded least_weight g.hi
-small_range [] a k g e = absurd (subst (λ o. T (is_some o)) (sym e) tt)
-small_range (r ∷ rs) a zero g e = let b = subst SmallRange e a.0 in (record { high = omega (arith, b.2); low = omega (arith, b.3) }, record { high = omega (arith, b.0); low = omega (arith, b.1) })
-small_range (r ∷ rs) a (suc k) g e = small_range rs a.1 k g e
-
--- the lists that the code keeps of the ranges
-module _ (rs : Ranges) (flags : List Bool) (lo hi : List ℤ) (spans : Spanned rs flags lo hi) where
-  -- a vertex that is there has a range
-  pub flagged : (k : ℕ) → get_or flags (suc k) false ≡ true → (g : Range) × (get_or rs k none ≡ some g)
-  flagged k t = go (get_or rs k none) refl (sym (spans.shows.agree (suc k)) ∙ t)
-    where
-      go : (o : Option Range) → get_or rs k none ≡ o → is_some o ≡ true → (g : Range) × (get_or rs k none ≡ some g)
-      go none e u = absurd (subst T (sym u) tt)
-      go (some g) e u = (g, e)
-
-  pub small_spans : Every SmallRange rs → SmallSpans flags lo hi
-  small_spans small =
-      record {
-        low = λ k t. let r = flagged k t in rw (spans.lows k r.0 r.1) (small_range rs small k r.0 r.1).0;
-        high = λ k t. let r = flagged k t in rw (spans.highs k r.0 r.1) (small_range rs small k r.0 r.1).1;
-      }
-
-module _ (f : compiled.Formula) (F : Formula) (is : Compiled f F) where
-  abbrev ks : List ℕ
-  ks = take f.program.count f.program.kinds
-
-  abbrev ls : List ℕ
-  ls = take f.program.places f.program.left
-
-  abbrev rs : List ℕ
-  rs = take f.program.places f.program.right
-
-  abbrev ms : List ℤ
-  ms = take f.program.places f.program.most
-
-  pub lent_of : Lent F.program ks ls rs ms
-  lent_of = record { kinds = is.program.kinds; left = is.program.left; right = is.program.right; most = is.program.most }
-
-  pub shows_of : Flagged f.vertices.present F.ranges
-  shows_of = record { agree = is.vertices.agree }
-
-  pub spanned_of : length F.ranges < most_vertices → Spanned F.ranges f.vertices.present f.vertices.lo f.vertices.hi
-  spanned_of h = record { few = h; shows = shows_of; lows = is.vertices.lo; highs = is.vertices.hi }
+module _ (f : Formula) (F : F.Formula) (is : Compiled f F) where
+  pub lent_of : Lent F.program (instructions_of f.program) (places_of f.program)
+  lent_of = means_lent is.program
 
   module _ (proper : Proper F) where
-    pub count_few : f.program.count ≤ most_instructions
-    count_few = omega (arith, is.program.count, proper.short)
+    pub count_few : f.program.length ≤ most_instructions
+    count_few = omega (arith, is.program.counted, proper.short)
 
-    pub places_of : Places ls rs ms
-    places_of =
-        let ps = places F.program in
-        rw (is.program.left, is.program.right, is.program.most)
-        (record {
-          few = omega (arith, length-map ps (λ a. a.left), proper.few_places);
-          rights = length-map ps (λ a. a.right) ∙ sym (length-map ps (λ a. a.left));
-          mosts = length-map ps (λ a. a.most) ∙ sym (length-map ps (λ a. a.left));
-          left_below = below_places F.ranges (λ a. a.left) ps proper.vertices (every_to (SmallPlace F.ranges) (λ p. T (present F.ranges p.left)) ps (λ p b. b.left_is) proper.places_small);
-          right_below = below_places F.ranges (λ a. a.right) ps proper.vertices (every_to (SmallPlace F.ranges) (λ p. T (present F.ranges p.right)) ps (λ p b. b.right_is) proper.places_small);
-          small = small_most F.ranges ps proper.places_small;
-        })
+    pub decisions_few : f.program.decisions ≤ most_decisions
+    decisions_few = omega (arith, is.program.decided, proper.few_places)
+
+    small_at : (i : ℕ) → i < length (places_of f.program) → SmallPlace F.ranges (place_at (places_of f.program) i)
+    small_at i h =
+        let ps = places_of f.program in
+        let n : i < length (P.places F.program) = omega (arith, lent_length F.program (instructions_of f.program) ps lent_of) in
+        rw (lent_place F.program (instructions_of f.program) ps lent_of i) (every_at (SmallPlace F.ranges) (P.places F.program) nowhere proper.places_small i n)
+
+    pub placed_of : Places (places_of f.program)
+    placed_of =
+        record {
+          few = omega (arith, places_long is.program, decisions_few);
+          left_below = λ i h. omega (arith, present_below F.ranges (place_at (places_of f.program) i).left (small_at i h).left_is, proper.vertices);
+          right_below = λ i h. omega (arith, present_below F.ranges (place_at (places_of f.program) i).right (small_at i h).right_is, proper.vertices);
+          small = λ i h. let b = small_at i h in record { high = omega (arith, b.high); low = omega (arith, b.low) };
+        }
 
 -- two formulas of one compiled one have equally many vertices
-pub same_few : (f : compiled.Formula) (F G : Formula) → Compiled f F → Compiled f G → length F.ranges < most_vertices → length G.ranges < most_vertices
+pub same_few : (f : Formula) (F G : F.Formula) → Compiled f F → Compiled f G → length F.ranges < most_vertices → length G.ranges < most_vertices
 same_few f F G a b h = omega (arith, a.vertices.count, b.vertices.count)

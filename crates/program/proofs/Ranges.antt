@@ -1,52 +1,74 @@
 -- A compiled formula's ranges, as they are lent: they are small and have a value.
-use Prim.Native.Nat.{ℕ, zero, suc, ◌≤◌, ◌<◌}
-use mathlib.Core.Path.{◌≡◌, subst}
-use mathlib.Core.Bool.{Bool, true, false}
-use mathlib.Core.Option.{Option, none, some}
-use mathlib.Core.List.{List, [], ◌∷◌}
-use native.Mathlib.Omega.{arith}
-use lib.ListN.{length, get_or}
-use lib.IntN.{ℤ, pos}
-use lib.Signed.{◌≤ℤ◌}
-use Rattle.page_numbers.specs.Numbers.{up, dn}
-use Rattle.page_meaning.specs.Contents.{Range}
+use Rattle.std.proofs.Common.{◌≡◌, ℕ, zero, suc, ◌<◌, List, [], ◌∷◌, Option, Some, None, is_some, length, get_or, sym, ap, ◌∙◌, subst, arith, refl}
+use Rattle.std.proofs.Math.Option as maybe
 use Rattle.page_meaning.specs.Limits.{most_vertices}
+use Rattle.page_meaning.specs.Contents as M
 use Rattle.page_questions.specs.Guarantees.{Every}
-use Rattle.page_formulas.specs.Formulas.{Formula}
-use Rattle.page_formulas.specs.Vertices.{Ranges}
-use Rattle.page_formulas.specs.ProperFormulas.{SmallRange, Nonempty, billion}
-use Rattle.program.specs.Lent.{Coded}
-use Rattle.program.specs.Compiled.{Compiled, Ranging, Ranged}
-use Rattle.program.specs.Formulas as types
-use Rattle.program.proofs.Loans.{flagged, lent_of, spanned_of}
+use Rattle.page_formulas.specs.Vertices.{Ranges, present}
+use Rattle.page_formulas.specs.Vertices as V
+use Rattle.page_formulas.specs.Formulas as F
+use Rattle.page_formulas.specs.ProperFormulas.{SmallRange, Nonempty}
+use Rattle.program.specs.Meanings.{range_of, entry_of, zero_range}
+use Rattle.program.specs.Compiled.{Covers, Compiled, Spanned, SmallSpans, Ranging, Ranged}
+use Rattle.program.specs.Lent.{Flagged}
+use Rattle.program.specs.declared.types.Range.{Range}
+use Rattle.program.specs.declared.types.Formula.{Formula}
 
 -- ---- ranges by position
 
-range_at_lem : (rs : Ranges) (P : Option Range → Type 0) → Every P rs → (k : ℕ) (g : Range) → get_or rs k none ≡ some g → P (some g)
-range_at_lem [] P a k g e = let z : ◌≡◌ {A = ℕ} 0 1 = cc in absurd (omega arith)
-range_at_lem (r ∷ rs) P a zero g e = subst P e a.0
-range_at_lem (r ∷ rs) P a (suc k) g e = range_at_lem rs P a.1 k g e
+range_at : (Q : maybe.Option M.Range → Type 0) (rs : Ranges) → Every Q rs → Q maybe.none → (k : ℕ) → Q (get_or rs k maybe.none)
+range_at Q [] a n k = n
+range_at Q (r ∷ rs) a n zero = a.0
+range_at Q (r ∷ rs) a n (suc k) = range_at Q rs a.1 n k
 
-module _ (rs : Ranges) (count : ℕ) (flags : List Bool) (lo hi : List ℤ) (r : Ranging rs count flags lo hi) where
+module _ (ranges : List (Option Range)) (rs : Ranges) (c : Covers ranges rs) where
+  -- a vertex that is there has its range
+  pub covered : (k : ℕ) (g : Range) → get_or ranges (suc k) None ≡ Some g → get_or rs k maybe.none ≡ maybe.some (range_of g)
+  covered k g e = sym (c.agree k) ∙ ap entry_of e
+
+  some_entry : (o : Option Range) → is_some o ≡ V.is_some (entry_of o)
+  some_entry None = refl
+  some_entry (Some g) = refl
+
+  pub flagged : Flagged ranges rs
+  flagged = record { agree = go }
+    where
+      go : (v : ℕ) → is_some (get_or ranges v None) ≡ present rs v
+      go zero = ap is_some c.zero
+      go (suc k) = some_entry (get_or ranges (suc k) None) ∙ ap V.is_some (c.agree k)
+
+  -- what holds of each range holds of each vertex's, and of zero's
+  at_vertex : (Q : maybe.Option M.Range → Type 0) → Every Q rs → Q maybe.none → Q (maybe.some (range_of zero_range)) → (v : ℕ) (g : Range) → get_or ranges v None ≡ Some g → Q (maybe.some (range_of g))
+  at_vertex Q a n z zero g e = subst (λ o. Q (entry_of o)) (sym c.zero ∙ e) z
+  at_vertex Q a n z (suc k) g e = subst Q (covered k g e) (range_at Q rs a n k)
+
   module _ (small : Every SmallRange rs) where
-    pub ranged : Every Nonempty rs → Ranged count flags lo hi
-    ranged some-value = record {
-      some_vertex = omega (arith, r.count_is);
-      few = omega (arith, r.count_is, r.spans.few);
-      nonempty = λ v z l e. at v z e (λ x. get_or lo x (pos 0) ≤ℤ get_or hi x (pos 0)) (λ k g d. rw (r.spans.lows k g d, r.spans.highs k g d) (range_at_lem rs Nonempty some-value k g d));
-      small_lo = λ v z l e. at v z e (λ x. (up (get_or lo x (pos 0)) ≤ billion) × (dn (get_or lo x (pos 0)) ≤ billion)) (λ k g d. let b = range_at_lem rs SmallRange small k g d in rw (r.spans.lows k g d) (b.2, b.3));
-      small_hi = λ v z l e. at v z e (λ x. (up (get_or hi x (pos 0)) ≤ billion) × (dn (get_or hi x (pos 0)) ≤ billion)) (λ k g d. let b = range_at_lem rs SmallRange small k g d in rw (r.spans.highs k g d) (b.0, b.1));
-    }
-      where
-        at : (v : ℕ) → 0 < v → get_or flags v false ≡ true → (P : ℕ → Type 0) → ((k : ℕ) (g : Range) → get_or rs k none ≡ some g → P (suc k)) → P v
-        at zero z e P f = absurd (omega arith)
-        at (suc k) z e P f = let p = flagged rs flags lo hi r.spans k e in f k p.0 p.1
+    pub small_spans : SmallSpans ranges
+    small_spans =
+        record {
+          low = λ v g e. let b = at_vertex SmallRange small tt (omega arith, omega arith, omega arith, omega arith) v g e in record { high = omega (arith, b.2); low = omega (arith, b.3) };
+          high = λ v g e. let b = at_vertex SmallRange small tt (omega arith, omega arith, omega arith, omega arith) v g e in record { high = omega (arith, b.0); low = omega (arith, b.1) };
+        }
 
--- ---- a compiled formula, part by part
+pub ranged : (rs : Ranges) (count : ℕ) (ranges : List (Option Range)) → Ranging rs count ranges → Every SmallRange rs → Every Nonempty rs → Ranged count ranges
+ranged rs count ranges r small some-value = record {
+  some_vertex = omega (arith, r.count_is);
+  few = omega (arith, r.count_is, r.spans.few);
+  zero = r.spans.covers.zero;
+  nonempty = at_vertex ranges rs r.spans.covers Nonempty some-value tt (omega arith);
+  small_lo = λ v g e. let b = at_vertex ranges rs r.spans.covers SmallRange small tt (omega arith, omega arith, omega arith, omega arith) v g e in (b.2, b.3);
+  small_hi = λ v g e. let b = at_vertex ranges rs r.spans.covers SmallRange small tt (omega arith, omega arith, omega arith, omega arith) v g e in (b.0, b.1);
+}
 
-module _ (f : types.Formula) (F : Formula) (c : Compiled f F) where
-  pub coded_of : Coded F f.program.kinds f.program.count f.program.left f.program.right f.program.most f.program.places
-  coded_of = let m = c.program in record { lent = lent_of f F c; n_is = m.count; few_is = m.places }
+-- ---- a compiled formula's
 
-  pub ranging_of : length F.ranges < most_vertices → Ranging F.ranges f.vertices.count f.vertices.present f.vertices.lo f.vertices.hi
-  ranging_of h = record { count_is = c.vertices.count; spans = spanned_of f F c h }
+module _ (f : Formula) (F : F.Formula) (c : Compiled f F) where
+  pub shows_of : Flagged f.vertices.ranges F.ranges
+  shows_of = flagged f.vertices.ranges F.ranges c.vertices.covers
+
+  module _ (few : length F.ranges < most_vertices) where
+    pub spanned_of : Spanned F.ranges f.vertices.ranges
+    spanned_of = record { few = few; covers = c.vertices.covers }
+
+    pub ranging_of : Ranging F.ranges f.vertices.count f.vertices.ranges
+    ranging_of = record { count_is = c.vertices.count; spans = spanned_of }

@@ -1,4 +1,4 @@
-pub mod Formulas
+pub mod Meanings
 pub mod Built
 pub mod Lent
 pub mod Compiled

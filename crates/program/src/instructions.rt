@@ -1,147 +1,119 @@
-// A program is written into four arrays that the caller lends: each step takes where it ends, and gives back where it ends then.
-ghost use Rattle.std.specs.Prelude.{◌≡◌, [], ◌∷◌};
-ghost use Rattle.page_formulas.specs.Kinds.{kind_of};
-ghost use Rattle.page_formulas.specs.Program.{place};
-ghost use Rattle.page_formulas.specs.Compilation.{at_most_place, below_place, comparison};
+// A program is written instruction by instruction, each step after what stands there.
+ghost use Rattle.std.specs.Prelude.{◌≡◌, ◌≤◌, [], ◌∷◌};
+ghost use Rattle.page_meaning.specs.Limits.{most_decisions};
 ghost use Rattle.page_meaning.specs.Condition.{equal};
+ghost use Rattle.page_formulas.specs.Program.{place};
+ghost use Rattle.page_formulas.specs.Costs.{most_instructions};
+ghost use Rattle.page_formulas.specs.Compilation.{at_most_place, below_place, comparison};
 ghost use Rattle.question.specs.Held.{op_of};
-ghost use Rattle.program.specs.Built.{instr_of, term_of, program_of, Room, Builds, Near};
+ghost use Rattle.program.specs.Meanings.{instr_of, place_of, term_of, instructions_of, places_of, Bare};
+ghost use Rattle.program.specs.Built.{Long, Room, Builds, Means};
 
-use crate::types::{End, Joint, Term};
+use crate::types::{Instruction, Place, Program, Term};
 use ints::weights::{difference, sum};
 use limits::{INSTRUCTIONS, PLACES};
 use question::types::Op;
 
-pub fn kind(j: Joint) -> u8
-    ensures { result ≡ kind_of (instr_of j) }
-{
-    match j {
-        Joint::And => 1,
-        Joint::Or => 2,
-        Joint::Not => 3,
-        Joint::True => 4,
-        Joint::False => 5,
+impl Program {
+    // No instruction yet.
+    pub fn new() -> Program
+        ensures { Means result [] × Long result }
+    {
+        let nowhere = Place {
+            left: 0,
+            right: 0,
+            most: 0,
+        };
+        Program {
+            instructions: [Instruction::True; INSTRUCTIONS],
+            length: 0,
+            places: [nowhere; PLACES],
+            decisions: 0,
+        }
     }
-}
 
-pub fn emit(
-    kinds: &mut [u8; INSTRUCTIONS],
-    left: &mut [u8; PLACES],
-    right: &mut [u8; PLACES],
-    most: &mut [i64; PLACES],
-    at: End,
-    j: Joint,
-) -> End
-    requires { Room (program_of kinds.old left.old right.old most.old at) 1 0 }
-    ensures { Builds (program_of kinds.old left.old right.old most.old at) (program_of kinds.new left.new right.new most.new result) 1 0 (instr_of j ∷ []) }
-{
-    let n = at.count;
-    kinds[n] = kind(j);
-    End {
-        count: n + 1,
-        places: at.places,
+    pub fn instructions(&self) -> &[Instruction]
+        requires { self.now.length ≤ most_instructions }
+        ensures { result.now ≡ instructions_of self.now }
+    {
+        &self.instructions[..self.length]
     }
-}
 
-pub fn emit_place(
-    kinds: &mut [u8; INSTRUCTIONS],
-    left: &mut [u8; PLACES],
-    right: &mut [u8; PLACES],
-    most: &mut [i64; PLACES],
-    at: End,
-    a: u8,
-    b: u8,
-    k: i64,
-) -> End
-    requires { Room (program_of kinds.old left.old right.old most.old at) 1 1 }
-    ensures { Builds (program_of kinds.old left.old right.old most.old at) (program_of kinds.new left.new right.new most.new result) 1 1 (place (record { left = a; right = b; most = k }) ∷ []) }
-{
-    let n = at.count;
-    let m = at.places;
-    kinds[n] = 0;
-    left[m] = a;
-    right[m] = b;
-    most[m] = k;
-    End {
-        count: n + 1,
-        places: m + 1,
+    pub fn places(&self) -> &[Place]
+        requires { self.now.decisions ≤ most_decisions }
+        ensures { result.now ≡ places_of self.now }
+    {
+        &self.places[..self.decisions]
     }
-}
 
-// l ≤ r
-pub fn at_most(
-    kinds: &mut [u8; INSTRUCTIONS],
-    left: &mut [u8; PLACES],
-    right: &mut [u8; PLACES],
-    most: &mut [i64; PLACES],
-    at: End,
-    l: Term,
-    r: Term,
-) -> End
-    requires { Room (program_of kinds.old left.old right.old most.old at) 1 1 × Near l × Near r }
-    ensures { Builds (program_of kinds.old left.old right.old most.old at) (program_of kinds.new left.new right.new most.new result) 1 1 (place (at_most_place (term_of l) (term_of r)) ∷ []) }
-{
-    let k = difference(r.offset, l.offset);
-    emit_place(kinds, left, right, most, at, l.vertex, r.vertex, k)
-}
+    // An instruction that is no place.
+    pub fn emit(&mut self, i: Instruction)
+        requires { Room self.old 1 0 × Bare i }
+        ensures { Builds self.old self.new 1 0 (instr_of i ∷ []) }
+    {
+        self.instructions[self.length] = i;
+        self.length += 1;
+    }
 
-// l < r
-pub fn below(
-    kinds: &mut [u8; INSTRUCTIONS],
-    left: &mut [u8; PLACES],
-    right: &mut [u8; PLACES],
-    most: &mut [i64; PLACES],
-    at: End,
-    l: Term,
-    r: Term,
-) -> End
-    requires { Room (program_of kinds.old left.old right.old most.old at) 1 1 × Near l × Near r }
-    ensures { Builds (program_of kinds.old left.old right.old most.old at) (program_of kinds.new left.new right.new most.new result) 1 1 (place (below_place (term_of l) (term_of r)) ∷ []) }
-{
-    let k = difference(r.offset, l.offset);
-    emit_place(kinds, left, right, most, at, l.vertex, r.vertex, sum(k, -1))
-}
+    pub fn emit_place(&mut self, p: Place)
+        requires { Room self.old 1 1 }
+        ensures { Builds self.old self.new 1 1 (place (place_of p) ∷ []) }
+    {
+        self.instructions[self.length] = Instruction::Place;
+        self.length += 1;
+        self.places[self.decisions] = p;
+        self.decisions += 1;
+    }
 
-// l ≤ r and r ≤ l
-pub fn same(
-    kinds: &mut [u8; INSTRUCTIONS],
-    left: &mut [u8; PLACES],
-    right: &mut [u8; PLACES],
-    most: &mut [i64; PLACES],
-    at: End,
-    l: Term,
-    r: Term,
-) -> End
-    requires { Room (program_of kinds.old left.old right.old most.old at) 3 2 × Near l × Near r }
-    ensures { Builds (program_of kinds.old left.old right.old most.old at) (program_of kinds.new left.new right.new most.new result) 3 2 (comparison equal (term_of l) (term_of r)) }
-{
-    let one = at_most(kinds, left, right, most, at, l, r);
-    let two = at_most(kinds, left, right, most, one, r, l);
-    emit(kinds, left, right, most, two, Joint::And)
-}
+    // l ≤ r
+    pub fn at_most(&mut self, l: Term, r: Term)
+        requires { Room self.old 1 1 }
+        ensures { Builds self.old self.new 1 1 (place (at_most_place (term_of l) (term_of r)) ∷ []) }
+    {
+        self.emit_place(Place {
+            left: l.vertex,
+            right: r.vertex,
+            most: difference(r.offset, l.offset),
+        });
+    }
 
-pub fn compare(
-    kinds: &mut [u8; INSTRUCTIONS],
-    left: &mut [u8; PLACES],
-    right: &mut [u8; PLACES],
-    most: &mut [i64; PLACES],
-    at: End,
-    op: Op,
-    l: Term,
-    r: Term,
-) -> End
-    requires { Room (program_of kinds.old left.old right.old most.old at) 4 2 × Near l × Near r }
-    ensures { Builds (program_of kinds.old left.old right.old most.old at) (program_of kinds.new left.new right.new most.new result) 4 2 (comparison (op_of op) (term_of l) (term_of r)) }
-{
-    match op {
-        Op::Less => below(kinds, left, right, most, at, l, r),
-        Op::AtMost => at_most(kinds, left, right, most, at, l, r),
-        Op::Equal => same(kinds, left, right, most, at, l, r),
-        Op::AtLeast => at_most(kinds, left, right, most, at, r, l),
-        Op::More => below(kinds, left, right, most, at, r, l),
-        Op::Unequal => {
-            let both = same(kinds, left, right, most, at, l, r);
-            emit(kinds, left, right, most, both, Joint::Not)
+    // l < r
+    pub fn below(&mut self, l: Term, r: Term)
+        requires { Room self.old 1 1 }
+        ensures { Builds self.old self.new 1 1 (place (below_place (term_of l) (term_of r)) ∷ []) }
+    {
+        let k = difference(r.offset, l.offset);
+        self.emit_place(Place {
+            left: l.vertex,
+            right: r.vertex,
+            most: sum(k, -1),
+        });
+    }
+
+    // l ≤ r and r ≤ l
+    pub fn same(&mut self, l: Term, r: Term)
+        requires { Room self.old 3 2 }
+        ensures { Builds self.old self.new 3 2 (comparison equal (term_of l) (term_of r)) }
+    {
+        self.at_most(l, r);
+        self.at_most(r, l);
+        self.emit(Instruction::And);
+    }
+
+    pub fn compare(&mut self, op: Op, l: Term, r: Term)
+        requires { Room self.old 4 2 }
+        ensures { Builds self.old self.new 4 2 (comparison (op_of op) (term_of l) (term_of r)) }
+    {
+        match op {
+            Op::Less => self.below(l, r),
+            Op::AtMost => self.at_most(l, r),
+            Op::Equal => self.same(l, r),
+            Op::AtLeast => self.at_most(r, l),
+            Op::More => self.below(r, l),
+            Op::Unequal => {
+                self.same(l, r);
+                self.emit(Instruction::Not);
+            }
         }
     }
 }

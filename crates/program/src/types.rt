@@ -1,17 +1,12 @@
-// The declared types: a formula as the product holds it. specs/Formulas adds the arrays that hold its program, and specs/Built says what
-// they mean.
-use limits::VERTICES;
+// The declared types: a formula as the product holds it. specs/Built and specs/Compiled say what they mean.
+ghost use Rattle.std.specs.Prelude.{pos, neg_ℤ, ◌≤ℤ◌};
 
-// Where a program that is being written ends: so many instructions and places so far.
-#[derive(Clone, Copy)]
-pub struct End {
-    pub count: usize,
-    pub places: usize,
-}
+use limits::{INSTRUCTIONS, PLACES, VERTICES};
 
-// An instruction that is no place.
-#[derive(Clone, Copy)]
-pub enum Joint {
+// What an instruction does: a place pushes its truth; the others work on the truths before them, or push a constant.
+#[derive(Clone, Copy, Debug, PartialEq, Eq)]
+pub enum Instruction {
+    Place,
     And,
     Or,
     Not,
@@ -19,27 +14,50 @@ pub enum Joint {
     False,
 }
 
-// A vertex plus an offset.
+// A place: left − right ≤ most.
+#[derive(Clone, Copy)]
+pub struct Place {
+    pub left: u8,
+    pub right: u8,
+    pub most: i64,
+}
+
+// The first `length` instructions are the program; the first `decisions` places are those of its place instructions, in order.
+#[derive(Clone, Copy)]
+pub struct Program {
+    pub instructions: [Instruction; INSTRUCTIONS],
+    pub length: usize,
+    pub places: [Place; PLACES],
+    pub decisions: usize,
+}
+
+// A vertex plus an offset, which is at most a sum of two i32, so that weights are exact in i64.
 #[derive(Clone, Copy)]
 pub struct Term {
     pub vertex: u8,
     pub offset: i64,
+    pub ghost low: { neg_ℤ (pos 4294967296) ≤ℤ offset },
+    pub ghost high: { offset ≤ℤ pos 4294967296 },
 }
 
-// The vertex numbers below `count`: whether the formula has the vertex, and if so what it ranges over.
+// What a vertex ranges over.
+#[derive(Clone, Copy)]
+pub struct Range {
+    pub lo: i64,
+    pub hi: i64,
+}
+
+// The vertex numbers below `count`: what each ranges over, where the formula has it. Vertex 0 ranges over 0 alone.
 #[derive(Clone, Copy)]
 pub struct Vertices {
     pub count: usize,
-    pub present: [bool; VERTICES],
-    pub lo: [i64; VERTICES],
-    pub hi: [i64; VERTICES],
+    pub ranges: [Option<Range>; VERTICES],
 }
 
-// A compiled formula whose program stands in arrays that were lent: so many instructions and places; `pairs`: it speaks of two rows.
+// A compiled formula; `pairs`: it speaks of two rows.
 #[derive(Clone, Copy)]
-pub struct Outline {
-    pub count: usize,
-    pub places: usize,
+pub struct Formula {
+    pub program: Program,
     pub pairs: bool,
     pub vertices: Vertices,
 }

@@ -1,43 +1,32 @@
--- A column of the rows, entry by entry; and the rows with one more.
-use Prim.Native.Nat.{ℕ, zero, suc, ◌+◌, ◌-◌, ◌≤◌, ◌<◌}
-use mathlib.Core.Path.{◌≡◌, refl, sym, ap, ap₂, ◌∙◌}
-use mathlib.Core.List.{List, [], ◌∷◌}
-use native.Mathlib.Omega.{arith}
+-- The sizes of the nodes, entry by entry; and the nodes with one more.
+use Rattle.std.proofs.Common.{ℕ, ◌+◌, ◌-◌, ◌≤◌, ◌<◌, ◌≡◌, sym, ap, ap₂, ◌∙◌, List, arith, length, get_or}
+use Rattle.std.proofs.lemmas.List.{map-set, length-map}
 use native.Mathlib.Decide.{ℕ_discrete}
-use lib.ListN.{length, get_or, set}
+use lib.ListN.{set, get_or-map}
 use lib.Seq.{get_or-set_same, get_or-set_other}
-use lib.IntN.{ℤ, pos}
 use Rattle.page_formulas.specs.Postfix.{size_by, first_of, size_of, places_in}
+use Rattle.program.specs.Meanings.{number_of, place_of}
 use Rattle.program.specs.Lent.{place_at}
-use Rattle.program_tree.specs.Nodes.{cell, column, first_in, place_of, Filled}
+use Rattle.program.specs.declared.types.Program.{Program}
+use Rattle.program_tree.specs.declared.types.Node.{Node}
+use Rattle.program_tree.specs.declared.types.Tree.{Tree}
+use Rattle.program_tree.specs.Nodes.{blank, node, sizes, first_in, size_for, kinds_in, Filled}
 
-pub column_at_lem : (k : ℕ) (nodes : List (List ℕ)) (j : ℕ) → get_or (column k nodes) j 0 ≡ cell nodes j k
-unfolding column
-column_at_lem k [] j = refl
-column_at_lem k (r ∷ nodes) zero = refl
-column_at_lem k (r ∷ nodes) (suc j) = column_at_lem k nodes j
+pub size_in : (nodes : List Node) (j : ℕ) → get_or (sizes nodes) j 0 ≡ (node nodes j).size
+size_in nodes j = get_or-map (λ (r : Node). r.size) nodes j blank
 
-column_set : (k : ℕ) (nodes : List (List ℕ)) (i : ℕ) (r : List ℕ) → column k (set nodes i r) ≡ set (column k nodes) i (get_or r k 0)
-unfolding column
-column_set k [] i r = refl
-column_set k (s ∷ nodes) zero r = refl
-column_set k (s ∷ nodes) (suc i) r = ap (λ l. get_or s k 0 ∷ l) (column_set k nodes i r)
+pub first_in_lem : (nodes : List Node) (j : ℕ) → first_of (sizes nodes) j ≡ first_in nodes j
+first_in_lem nodes j = ap (λ m. j - 1 - m) (size_in nodes (j - 1))
 
-column_length : (k : ℕ) (nodes : List (List ℕ)) → length (column k nodes) ≡ length nodes
-unfolding column
-column_length k [] = refl
-column_length k (r ∷ nodes) = ap suc (column_length k nodes)
+-- what a size is read from
+pub size_read : (kinds : List ℕ) (t : Tree) (k j : ℕ) → k ≡ get_or kinds j 0 → size_for t k j ≡ size_of kinds (sizes t.nodes) j
+size_read kinds t k j e =
+    rw e (ap₂ (size_by (get_or kinds j 0)) (ap (λ m. (node t.nodes m).size) (sym (first_in_lem t.nodes j)) ∙ sym (size_in t.nodes (first_of (sizes t.nodes) j))) (sym (size_in t.nodes (j - 1))))
 
-pub first_in_lem : (nodes : List (List ℕ)) (j : ℕ) → first_of (column 1 nodes) j ≡ first_in nodes j
-first_in_lem nodes j = ap (λ m. j - 1 - m) (column_at_lem 1 nodes (j - 1))
+-- ---- one node more
 
-pub size_in : (kinds : List ℕ) (nodes : List (List ℕ)) (j : ℕ) → size_by (get_or kinds j 0) (cell nodes (first_in nodes j) 1) (cell nodes (j - 1) 1) ≡ size_of kinds (column 1 nodes) j
-size_in kinds nodes j = ap₂ (size_by (get_or kinds j 0)) (ap (λ m. cell nodes m 1) (sym (first_in_lem nodes j)) ∙ sym (column_at_lem 1 nodes (first_of (column 1 nodes) j))) (sym (column_at_lem 1 nodes (j - 1)))
-
--- ---- one row more
-
-pub filled_none : (kinds left right : List ℕ) (most : List ℤ) (nodes : List (List ℕ)) (weights : List ℤ) → Filled kinds left right most nodes weights 0
-filled_none kinds left right most nodes weights = record { kinds_are = λ j h. absurd (omega arith); sizes_are = λ j h. absurd (omega arith); places_are = λ j h. absurd (omega arith) }
+pub filled_none : (p : Program) (nodes : List Node) → Filled p nodes 0
+filled_none p nodes = record { kinds_are = λ j h. absurd (omega arith); sizes_are = λ j h. absurd (omega arith); places_are = λ j h. absurd (omega arith) }
 
 module _ (kinds sizes : List ℕ) (i s : ℕ) where
   kept : (j : ℕ) → j < i → get_or (set sizes i s) j 0 ≡ get_or sizes j 0
@@ -55,18 +44,21 @@ module _ (kinds sizes : List ℕ) (i s : ℕ) where
       go (no e) (yes z) = absurd (omega arith)
       go (no e) (no z) = kept j (omega arith) ∙ w j (omega arith) ∙ sym (same j (omega arith) (omega arith))
 
-module _ (kinds left right : List ℕ) (most : List ℤ) (nodes : List (List ℕ)) (weights : List ℤ) (i : ℕ) (w : Filled kinds left right most nodes weights i) (r : List ℕ) (weights' : List ℤ) (long : i < length nodes) where
-  pub filled_more : (i ≡ 0 → (a b : ℕ) → size_by (get_or kinds i 0) a b ≡ 1) → get_or r 0 0 ≡ get_or kinds i 0 → get_or r 1 0 ≡ size_of kinds (column 1 nodes) i → ((j : ℕ) → j < i → get_or weights' j (pos 0) ≡ get_or weights j (pos 0)) → (get_or kinds i 0 ≡ 0 → place_of (get_or r 2 0) (get_or r 3 0) (get_or weights' i (pos 0)) ≡ place_at left right most (places_in kinds i)) → Filled kinds left right most (set nodes i r) weights' (i + 1)
-  filled_more leaf ek es ew ep = record {
+module _ (p : Program) (nodes : List Node) (i : ℕ) (w : Filled p nodes i) (r : Node) (long : i < length nodes) where
+  abbrev ks : List ℕ
+  ks = kinds_in p
+
+  pub filled_more : (i ≡ 0 → (a b : ℕ) → size_by (get_or ks i 0) a b ≡ 1) → number_of r.instruction ≡ get_or ks i 0 → r.size ≡ size_of ks (sizes nodes) i → (get_or ks i 0 ≡ 0 → place_of r.place ≡ place_at p.places (places_in ks i)) → Filled p (set nodes i r) (i + 1)
+  filled_more leaf ek es ep = record {
     kinds_are = λ j h. kind j h (ℕ_discrete j i);
-    sizes_are = rw (column_set 1 nodes i r) (sizes_more kinds (column 1 nodes) i (get_or r 1 0) w.sizes_are (omega (arith, column_length 1 nodes)) leaf es);
+    sizes_are = rw (map-set (λ (r : Node). r.size) nodes i r) (sizes_more ks (sizes nodes) i r.size w.sizes_are (omega (arith, length-map nodes (λ (r : Node). r.size))) leaf es);
     places_are = λ j h. there j h (ℕ_discrete j i);
   }
     where
-      kind : (j : ℕ) → j < i + 1 → Dec (j ≡ i) → cell (set nodes i r) j 0 ≡ get_or kinds j 0
-      kind j h (yes e) = rw (e, get_or-set_same nodes i r [] long) ek
-      kind j h (no e) = rw (get_or-set_other nodes i j r [] e) (w.kinds_are j (omega arith))
+      kind : (j : ℕ) → j < i + 1 → Dec (j ≡ i) → number_of (node (set nodes i r) j).instruction ≡ get_or ks j 0
+      kind j h (yes e) = rw (e, get_or-set_same nodes i r blank long) ek
+      kind j h (no e) = rw (get_or-set_other nodes i j r blank e) (w.kinds_are j (omega arith))
 
-      there : (j : ℕ) → j < i + 1 → Dec (j ≡ i) → get_or kinds j 0 ≡ 0 → place_of (cell (set nodes i r) j 2) (cell (set nodes i r) j 3) (get_or weights' j (pos 0)) ≡ place_at left right most (places_in kinds j)
-      there j h (yes e) = rw (e, get_or-set_same nodes i r [] long) ep
-      there j h (no e) = λ k. ap₂ (λ (l : List ℕ) x. place_of (get_or l 2 0) (get_or l 3 0) x) (get_or-set_other nodes i j r [] e) (ew j (omega arith)) ∙ w.places_are j (omega arith) k
+      there : (j : ℕ) → j < i + 1 → Dec (j ≡ i) → get_or ks j 0 ≡ 0 → place_of (node (set nodes i r) j).place ≡ place_at p.places (places_in ks j)
+      there j h (yes e) = rw (e, get_or-set_same nodes i r blank long) ep
+      there j h (no e) = rw (get_or-set_other nodes i j r blank e) (w.places_are j (omega arith))

@@ -1,5 +1,5 @@
 -- The rows of a formula's program, as the code fills them: what a row is read from, and which place a place is.
-use Prim.Native.Nat.{ℕ, zero, suc, ◌+◌, ◌≤◌, ◌<◌}
+use Prim.Native.Nat.{ℕ, zero, suc, ◌+◌, ◌-◌, ◌≤◌, ◌<◌}
 use mathlib.Core.Path.{◌≡◌, refl, sym, ap, ap₂, ◌∙◌, subst}
 use mathlib.Core.List.{List, [], ◌∷◌}
 use native.Mathlib.Numerals.{add-one}
@@ -11,11 +11,19 @@ use Rattle.page_formulas.specs.Kinds.{kind_of, kinds_of, nowhere}
 use Rattle.page_formulas.specs.Form.{Rises}
 use Rattle.page_formulas.specs.Costs.{most_instructions}
 use Rattle.page_formulas.specs.Postfix.{counted, places_in}
-use Rattle.program_tree.specs.Nodes.{Reading}
+use Rattle.program_tree.specs.Nodes.{sizes, Reading}
+use Rattle.program_tree.specs.declared.types.Tree.{Tree}
+use Rattle.program_tree.proofs.Columns.{size_in, size_read}
 use Rattle.page_formulas.proofs.Trees.{instr_at, State, size_small, pushed_one, pushed_two}
 
-pub reading : (kinds : List ℕ) (n : ℕ) (long : n ≤ length kinds) (formed : Rises 0 (take n kinds) 1) (sizes : List ℕ) (i : ℕ) (h : i < n) (s : State kinds n long formed sizes i) → n ≤ most_instructions → Reading kinds sizes i
-reading kinds n long formed sizes i h s m = record { short = omega arith; one = pushed_one kinds n long formed sizes i h s; two = pushed_two kinds n long formed sizes i h s; small = size_small kinds n long formed sizes i h s }
+module _ (kinds : List ℕ) (n : ℕ) (long : n ≤ length kinds) (formed : Rises 0 (take n kinds) 1) (t : Tree) (i : ℕ) (h : i < n) (s : State kinds n long formed (sizes t.nodes) i) (m : n ≤ most_instructions) where
+  pub reading : (k : ℕ) → k ≡ get_or kinds i 0 → Reading t k i
+  reading k e = record {
+    short = omega arith;
+    one = λ a b. pushed_one kinds n long formed (sizes t.nodes) i h s (omega arith) (omega arith);
+    two = λ a b. omega (arith, size_in t.nodes (i - 1), pushed_two kinds n long formed (sizes t.nodes) i h s (omega arith) (omega arith));
+    small = omega (arith, size_read kinds t k i e, size_small kinds n long formed (sizes t.nodes) i h s);
+  }
 
 pub places_next : (kinds : List ℕ) (i : ℕ) → counted (get_or kinds i 0) (places_in kinds i) ≡ places_in kinds (i + 1)
 unfolding places_in

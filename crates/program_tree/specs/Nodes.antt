@@ -1,79 +1,67 @@
--- A program as a tree, in the code's rows.
-use Rattle.std.specs.Prelude.{ℕ, suc, ◌+◌, ◌-◌, ◌≤◌, ◌<◌, ◌≡◌, Bool, List, [], map, length, get_or, take, ℤ, pos}
+-- A program as a tree, in the code's nodes.
+use Rattle.std.specs.Prelude.{ℕ, suc, ◌+◌, ◌-◌, ◌≤◌, ◌<◌, ◌≡◌, Bool, List, map, length, get_or, take}
 use Rattle.page_meaning.specs.Limits.{most_vertices, most_decisions}
-use Rattle.page_formulas.specs.Program.{Values, Place, Program, test, truth}
+use Rattle.page_formulas.specs.Program as P
+use Rattle.page_formulas.specs.Program.{Values, test, truth}
 use Rattle.page_formulas.specs.Form.{Rises}
-use Rattle.page_formulas.specs.Postfix.{says, size_of, places_in, value_at}
+use Rattle.page_formulas.specs.Postfix.{says, size_by, size_of, places_in, value_at}
+use Rattle.page_formulas.specs.Costs.{most_instructions}
 use Rattle.page_sheets.specs.Facts.{taken}
 use Rattle.grid.specs.Edges.{Fact}
-use Rattle.page_formulas.specs.Costs.{most_instructions}
+use Rattle.program.specs.Meanings.{number_of, place_of, no_place}
 use Rattle.program.specs.Lent.{place_at}
-use Rattle.program_tree.specs.declared.types.Extent.{Extent}
+use Rattle.program.specs.declared.types.Program.{Program}
+use Rattle.program.specs.declared.types.Instruction.TheVariants as does
+use Rattle.program_tree.specs.declared.types.Node.{Node}
+use Rattle.program_tree.specs.declared.types.Tree.{Tree}
 
--- entry k of row i
-abbrev pub cell : List (List ℕ) → ℕ → ℕ → ℕ
-cell nodes i k = get_or (get_or nodes i []) k 0
+-- past the end of the nodes
+abbrev pub blank : Node
+blank = record { instruction = does.Place; size = 0; place = no_place }
 
--- entry k of every row
-unfoldable pub column : ℕ → List (List ℕ) → List ℕ
-column k nodes = map (λ r. get_or r k 0) nodes
+abbrev pub node : List Node → ℕ → Node
+node nodes j = get_or nodes j blank
+
+-- the size of every node
+abbrev pub sizes : List Node → List ℕ
+sizes nodes = map (λ r. r.size) nodes
 
 -- where the first of two operands ends
-abbrev pub first_in : List (List ℕ) → ℕ → ℕ
-first_in nodes j = j - 1 - cell nodes (j - 1) 1
-
-abbrev pub place_of : ℕ → ℕ → ℤ → Place
-place_of left right most = record { left = left; right = right; most = most }
+abbrev pub first_in : List Node → ℕ → ℕ
+first_in nodes j = j - 1 - (node nodes (j - 1)).size
 
 -- a place between vertices up to the last, with a small constant: a fact where it is wanted true, and where false
-pub record Placed (last : ℕ) (q : Place) : Type 0 where
+pub record Placed (last : ℕ) (q : P.Place) : Type 0 where
   pub few : last < most_vertices
   pub facts : (d : Bool) → Fact last (taken q d).right (taken q d).left (taken q d).most
 
--- ---- how the rows are filled
-
--- what the size of instruction i is read from: its operands stand before it
-pub record Reading (kinds sizes : List ℕ) (i : ℕ) : Type 0 where
-  pub short : i < most_instructions
-  pub one : 0 < get_or kinds i 0 → get_or kinds i 0 < 4 → 0 < i
-  pub two : 0 < get_or kinds i 0 → get_or kinds i 0 < 3 → get_or sizes (i - 1) 0 < i
-  pub small : size_of kinds sizes i ≤ suc i
-
--- the first n kinds are a program's, and its places have room
-pub record Plantable (kinds : List ℕ) (n : ℕ) : Type 0 where
-  pub short : n ≤ most_instructions
-  pub long : n ≤ length kinds
-  pub formed : Rises 0 (take n kinds) 1
-  pub few : (j : ℕ) → j < n → get_or kinds j 0 ≡ 0 → places_in kinds j < most_decisions
-
--- the rows of the first n instructions
-pub record Filled (kinds left right : List ℕ) (most : List ℤ) (nodes : List (List ℕ)) (weights : List ℤ) (n : ℕ) : Type 0 where
-  pub kinds_are : (j : ℕ) → j < n → cell nodes j 0 ≡ get_or kinds j 0
-  pub sizes_are : (j : ℕ) → j < n → get_or (column 1 nodes) j 0 ≡ size_of kinds (column 1 nodes) j
-  pub places_are : (j : ℕ) → j < n → get_or kinds j 0 ≡ 0 → place_of (cell nodes j 2) (cell nodes j 3) (get_or weights j (pos 0)) ≡ place_at left right most (places_in kinds j)
-
--- ---- what they say
-pub record Tree : Type 0 where
-  pub nodes : List (List ℕ)
-  pub most : List ℤ
-  pub count : ℕ
-  pub last : ℕ
-
-abbrev pub tree_of : List (List ℕ) → List ℤ → Extent → Tree
-tree_of nodes most e = record { nodes = nodes; most = most; count = e.count; last = e.last }
-
 module _ (t : Tree) where
   abbrev pub kind_at : ℕ → ℕ
-  kind_at j = cell t.nodes j 0
+  kind_at j = number_of (node t.nodes j).instruction
 
   abbrev pub size_at : ℕ → ℕ
-  size_at j = cell t.nodes j 1
+  size_at j = (node t.nodes j).size
 
   abbrev pub first_at : ℕ → ℕ
   first_at j = first_in t.nodes j
 
-  abbrev pub place_in : ℕ → Place
-  place_in j = place_of (cell t.nodes j 2) (cell t.nodes j 3) (get_or t.most j (pos 0))
+  abbrev pub place_in : ℕ → P.Place
+  place_in j = place_of (node t.nodes j).place
+
+  -- ---- how it is planted
+
+  -- the size of an instruction of kind k that comes at i
+  abbrev pub size_for : ℕ → ℕ → ℕ
+  size_for k i = size_by k (size_at (first_at i)) (size_at (i - 1))
+
+  -- what that is read from: its operands stand before it
+  pub record Reading (k i : ℕ) : Type 0 where
+    pub short : i < most_instructions
+    pub one : 0 < k → k < 4 → 0 < i
+    pub two : 0 < k → k < 3 → size_at (i - 1) < i
+    pub small : size_for k i ≤ suc i
+
+  -- ---- what it says
 
   -- its operands come before it and are smaller
   pub record Made (j : ℕ) : Type 0 where
@@ -91,8 +79,31 @@ module _ (t : Tree) where
   pub record Describes (v : Values → ℕ → Bool) : Type 0 where
     pub told : (x : Values) (j : ℕ) → j < t.count → v x j ≡ says (kind_at j) (test x (place_in j)) (v x (first_at j)) (v x (j - 1))
 
+-- a program's kinds, by the pages' numbers
+abbrev pub kinds_in : Program → List ℕ
+kinds_in p = map number_of p.instructions
+
+-- the first so many instructions are a program's, and its places have room
+pub record Plantable (p : Program) : Type 0 where
+  pub short : p.length ≤ most_instructions
+  pub long : p.length ≤ length (kinds_in p)
+  pub formed : Rises 0 (take p.length (kinds_in p)) 1
+  pub few : (j : ℕ) → j < p.length → get_or (kinds_in p) j 0 ≡ 0 → places_in (kinds_in p) j < most_decisions
+
+-- the nodes of the first n instructions
+pub record Filled (p : Program) (nodes : List Node) (n : ℕ) : Type 0 where
+  pub kinds_are : (j : ℕ) → j < n → number_of (node nodes j).instruction ≡ get_or (kinds_in p) j 0
+  pub sizes_are : (j : ℕ) → j < n → get_or (sizes nodes) j 0 ≡ size_of (kinds_in p) (sizes nodes) j
+  pub places_are : (j : ℕ) → j < n → get_or (kinds_in p) j 0 ≡ 0 → place_of (node nodes j).place ≡ place_at p.places (places_in (kinds_in p) j)
+
+-- all of its nodes
+pub record Planted (p : Program) (last : ℕ) (t : Tree) : Type 0 where
+  pub filled : Filled p t.nodes p.length
+  pub count_is : t.count ≡ p.length
+  pub last_is : t.last ≡ last
+
 -- the tree is the program's
-pub record Tells (t : Tree) (p : Program) : Type 0 where
+pub record Tells (t : Tree) (p : P.Program) : Type 0 where
   pub laid : LaidRows t
   pub some : 0 < t.count
   pub whole : size_at t (t.count - 1) ≤ most_instructions

@@ -1,6 +1,5 @@
-// A formula's program as a tree: a row for each instruction, in two lent arrays.
+// A formula's program as a tree: a node for each instruction.
 #![tactic(auto)]
 
-pub mod nodes;
-pub mod operands;
+pub mod tree;
 pub mod types;

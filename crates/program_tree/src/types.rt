@@ -1,19 +1,20 @@
 // The declared types.
+use limits::INSTRUCTIONS;
+use program::types::{Instruction, Place};
 
-// An instruction's row: its kind, how many instructions there are in it and its operands, and of a place the two vertices.
-pub const ROW: usize = 4;
-
-// How many instructions there are, and the last vertex.
+// An instruction, how many instructions there are in it and its operands, and which place it is where it is one.
 #[derive(Clone, Copy)]
-pub struct Extent {
-    pub count: usize,
-    pub last: usize,
+pub struct Node {
+    pub instruction: Instruction,
+    pub size: u16,
+    pub place: Place,
 }
 
-// A place: left − right ≤ most.
+// A program, its first `count` nodes, and its formula's last vertex. It is written in postfix order, so an instruction's last operand
+// ends right before it, and the one before that where the last one starts.
 #[derive(Clone, Copy)]
-pub struct Edge {
-    pub left: usize,
-    pub right: usize,
-    pub most: i64,
+pub struct Tree {
+    pub nodes: [Node; INSTRUCTIONS],
+    pub count: usize,
+    pub last: usize,
 }

@@ -2,80 +2,49 @@
 // nothing). Standard input has the examples, as stdin here does: a line is name, report's verdicts, question in hexadecimal.
 #![tactic(auto)]
 
-use cases::Decoded;
 use limits::LONGEST;
-use outcome::Judged;
-use printing::{line_end, text, words};
+use question::types::Asked;
 use std::io;
 
-fn verdict(rt: &impl Print, asked: u8, question: &[u8]) -> io::Result<()> {
-    let judged = answers::verdict(asked, question);
-    match judged {
-        Judged::Good(verdict) => words::verdict(rt, verdict),
-        Judged::Refused(_, _) => text(rt, b"refused"),
+fn verdict(rt: &impl Print, asked: Asked, question: &[u8]) -> io::Result<()> {
+    match answers::verdict(asked.number(), question) {
+        Ok(verdict) => rt.print(verdict),
+        Err(_) => rt.print("refused"),
     }
-}
-
-// The question is the first n bytes.
-fn verdicts(rt: &impl Print, bytes: &[u8], n: usize) -> io::Result<()> {
-    let start = 0;
-    if n <= bytes.len() {
-        let question = &bytes[start..n];
-        verdict(rt, 1, question)?;
-        text(rt, b"/")?;
-        verdict(rt, 2, question)?;
-    }
-    Ok(())
 }
 
 // No question has more bytes than the room.
 fn ours(rt: &impl Print, digits: &[u8]) -> io::Result<()> {
     let mut room = [0u8; LONGEST];
-    let decoded = cases::decode(digits, &mut room);
-    match decoded {
-        Decoded::Bytes(n) => verdicts(rt, &room, n),
-        Decoded::Wrong => text(rt, b"not hexadecimal"),
-    }
+    let Some(n) = cases::decode(digits, &mut room) else {
+        return rt.print("not hexadecimal");
+    };
+    let question = &room[..n];
+    verdict(rt, Asked::Irrelevant, question)?;
+    rt.print("/")?;
+    verdict(rt, Asked::Computable, question)
 }
 
-// The report's verdicts and ours.
-fn beside(rt: &impl Print, fields: &[u8]) -> io::Result<()> {
-    let parting = cases::cut(fields, b'\t');
-    let stop = parting.stop;
-    let next = parting.next;
-    text(rt, b": report ")?;
-    text(rt, &fields[..stop])?;
-    text(rt, b", ours ")?;
-    ours(rt, &fields[next..])?;
-    line_end(rt)
-}
-
-fn line(rt: &impl Print, line: &[u8]) -> io::Result<()> {
-    if cases::is_case(line) {
-        let parting = cases::cut(line, b'\t');
-        let stop = parting.stop;
-        let next = parting.next;
-        text(rt, &line[..stop])?;
-        beside(rt, &line[next..])?;
-    }
-    Ok(())
-}
-
-fn lines(rt: &impl Print, input: &[u8]) -> io::Result<()> {
-    let mut at = 0;
-    while at < input.len() {
-        let rest = &input[at..];
-        let parting = cases::cut(rest, b'\n');
-        let stop = parting.stop;
-        line(rt, &rest[..stop])?;
-        at += parting.next;
-    }
-    Ok(())
+// A line of the input: name, the report's verdicts, question.
+fn case(rt: &impl Print, line: &[u8]) -> io::Result<()> {
+    let (name, fields) = cases::cut(line, b'\t');
+    let (report, digits) = cases::cut(fields, b'\t');
+    rt.write_all(name)?;
+    rt.print(": report ")?;
+    rt.write_all(report)?;
+    rt.print(", ours ")?;
+    ours(rt, digits)?;
+    rt.println("")
 }
 
 // Of the input the first 65,536 bytes are read; the examples are half as long.
 fn main(rt: HostRuntime) -> io::Result<()> {
     let mut input = [0u8; 65536];
     let n = files::fill(&mut rt.reader(), &mut input)?;
-    lines(&rt, &input[..n])
+    for line in input[..n].split(|b| *b == b'\n') {
+        if cases::is_case(line) {
+            case(&rt, line)?;
+        }
+    }
+    Ok(())
 }

@@ -1,2 +1,1 @@
-pub mod RowRun
-pub mod Answers
+pub mod Guaranteed

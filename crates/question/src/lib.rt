@@ -1,3 +1,4 @@
 #![tactic(auto)]
 
+pub mod asked;
 pub mod types;

@@ -1,4 +1,11 @@
 // The declared types: a question as the product holds it. specs/Held says what the used fields mean.
+ghost use Rattle.std.specs.Prelude.{◌≤◌};
+ghost use Rattle.page_meaning.specs.Limits.{most_tokens};
+ghost use Rattle.page_questions.specs.Guarantees.{Accepted};
+ghost use Rattle.question.specs.Sizes.{ShapeHeld, ChangeHeld};
+ghost use Rattle.question.specs.Meanings.{question_with};
+ghost use Rattle.question.specs.Once.{Accepted_prop};
+
 use limits::{COLUMNS, ROWS, TABLES, TOKENS};
 
 // < ≤ = ≥ > ≠
@@ -101,7 +108,8 @@ pub enum Version {
 }
 
 // The first `total` columns count. Column numbers run over all tables; rows and settings speak of the changed table's column
-// `first + j` at j.
+// `first + j` at j. A question is such as the reader takes: its own numbers are what they are named for, and it has all that
+// FORMAT guarantees of a question.
 #[derive(Clone, Copy)]
 pub struct Question {
     pub shape: Shape,
@@ -109,17 +117,15 @@ pub struct Question {
     pub condition: Condition,
     pub change: Change,
     pub version: Version,
+    pub ghost shape_held: { ShapeHeld shape },
+    pub ghost few_tokens: { condition.count ≤ most_tokens },
+    pub ghost change_held: { ChangeHeld change },
+    pub ghost accepted: { Accepted (question_with version shape columns condition change) } by { Accepted_prop (question_with version shape columns condition change) },
 }
 
-#[derive(Clone, Copy)]
-pub enum Answer {
-    Good,
-    Refused(u8, usize),
-}
-
-// The answer to a byte string, and where it is good, the question.
-#[derive(Clone, Copy)]
-pub struct Reading {
-    pub answer: Answer,
-    pub question: Question,
+// What is asked of a change: whether no contents let it show, or whether the old list alone tells the new one.
+#[derive(Clone, Copy, Debug, PartialEq, Eq)]
+pub enum Asked {
+    Irrelevant,
+    Computable,
 }

@@ -1,63 +1,39 @@
--- The chain of suffixes: what each hands on.
-use mathlib.Core.Path.{◌≡◌, refl, sym, ap, ◌∙◌}
-use mathlib.Core.Bool.{Bool, true, false}
-use mathlib.Core.List.{List, [], ◌∷◌, map}
-use Prim.Native.Nat.{ℕ, zero, suc, ◌+◌, ◌≤◌, ◌<◌}
+-- From the head to the end: what the fields that were read make of the rest.
+use Rattle.std.specs.Prelude.{ℕ, zero, suc, ◌+◌, ◌≤◌, ◌<◌, ◌≡◌, Bool, true, false, cond, leb, length, List, [], ◌∷◌, map, take, drop, get_or, Result, Ok, Err}
+use Rattle.std.specs.Result.{IsErrAnd}
+use Rattle.std.proofs.lemmas.Result.{err_from_is_err_and}
+use mathlib.Core.Path.{refl, sym, ap, ◌∙◌}
 use native.Mathlib.Omega.{arith}
-use lib.ListN.{take, drop}
 use lib.Seq.{take-take}
-use borrow.Author.Tests.{le-leb, lt-leb, lt-ltb, le-ltb}
-use Rattle.page_numbers.specs.Outcome.{refused}
-use Rattle.page_meaning.specs.Condition.{Condition}
-use Rattle.page_meaning.specs.Contents.{Version, Change}
+use Rattle.page_numbers.specs.Outcome.{Outcome, good, refused}
+use borrow.Author.Tests.{lt-ltb, le-ltb}
+use Rattle.page_meaning.specs.Contents as M
+use Rattle.page_meaning.specs.Contents.{Version}
+use Rattle.page_questions.proofs.Steps.{not_both}
+use Rattle.page_meaning.specs.Limits.{limits, most_tables, most_columns}
 use Rattle.page_questions.specs.Layout as L
-use Rattle.page_questions.specs.Reader.{Read, versioned, ending, change_at, from_visible, from_condition}
-use Rattle.question.specs.Held.{Reads, ShapeHeld, widths_of, column_of}
+use Rattle.page_questions.specs.Reader as Reader
+use Rattle.page_questions.specs.Reader.{Read, up_to, byte, many, width_at, column_at, condition_at, change_at, ending, from_change, from_condition, from_visible, from_columns, from_widths, from_changed, from_kind, from_tables, from_version, read_under, read_of, marked, versioned, version_in}
+use Rattle.refusal.specs.Outcomes.{outcome_of}
+use Rattle.refusal.specs.declared.Refusal.{Refusal}
+use Rattle.question.specs.Held.{Reads, ShapeHeld, meant, version_of, question_with, verb_number, widths_of, column_of, condition_of, change_of}
 use Rattle.question.specs.Parts.{ranges_at}
-use Rattle.tables.specs.Shapes.{some}
 use Rattle.question.specs.declared.types.Column.{Column}
+use Rattle.question.specs.declared.types.Condition.{Condition}
+use Rattle.question.specs.declared.types.Change.{Change}
 use Rattle.question.specs.declared.types.Shape.{Shape}
-use Rattle.question.specs.declared.types.Reading.{Reading}
+use Rattle.question.specs.declared.types.Verb.{Verb}
+use Rattle.question.specs.declared.types.Version as types
+use Rattle.question.specs.declared.types.Question.{Question}
+use Rattle.fields.specs.Steps.{Steps}
+use Rattle.fields.specs.declared.cursor.Cursor.{Cursor}
+use Rattle.fields.proofs.Chain.{Ends, ends_after}
+use Rattle.tables.specs.Shapes.{some}
+use Rattle.reader.specs.Head.{head}
 
--- the same answer, said otherwise
-pub reads_as : {r : Reading} {o u : Read} → o ≡ u → Reads r o → Reads r u
-reads_as e h = record { meaning = h.meaning ∙ e; held = h.held }
-
--- ---- the version
-
-pub version_none : (n : ℕ) → n < 1 → versioned n ≡ false
-version_none n h = rw (lt-leb 1 n h) refl
-
-pub version_above : (n : ℕ) → 2 < n → versioned n ≡ false
-version_above n h = rw (le-leb 1 n (omega arith), le-ltb n 3 h) refl
-
-pub version_known : (n : ℕ) → 1 ≤ n → n ≤ 2 → versioned n ≡ true
-version_known n l h = rw (le-leb 1 n l, lt-ltb n 3 (omega arith)) refl
-
--- the same version, said otherwise
-pub version_as : {v w : Version} (s ws : List ℕ) (t : ℕ) (cs : List L.Column) (c : Condition) (ch : Change) (p : ℕ)
-    → v ≡ w
-    → ending s (L.question_from v ws t cs c ch) p ≡ ending s (L.question_from w ws t cs c ch) p
-version_as s ws t cs c ch p e = ap (λ x. ending s (L.question_from x ws t cs c ch) p) e
-
--- ---- none visible
-
-module _ (s : List ℕ) (kind changed : ℕ) (ws : List ℕ) (cs : List L.Column) (p : ℕ) where
-  pub when_seen : (l : List ℕ) → L.visible_from 0 cs ≡ l → some l ≡ true → from_condition s kind changed ws cs p ≡ from_visible s kind changed ws cs p
-  unfolding from_visible
-  when_seen [] e h = let z : ◌≡◌ {A = Bool} true false = sym h in absurd (clash z)
-    where
-      clash : ◌≡◌ {A = Bool} true false → ⊥
-      clash x = let y : ◌≡◌ {A = ℕ} 0 1 = cc in omega arith
-  when_seen (i ∷ is) e h = rw e refl
-
-  pub when_unseen : (l : List ℕ) → L.visible_from 0 cs ≡ l → some l ≡ false → refused 8 p ≡ from_visible s kind changed ws cs p
-  unfolding from_visible
-  when_unseen [] e h = rw e refl
-  when_unseen (i ∷ is) e h = absurd (clash h)
-    where
-      clash : ◌≡◌ {A = Bool} true false → ⊥
-      clash x = let y : ◌≡◌ {A = ℕ} 0 1 = cc in omega arith
+-- what was refused
+pub reads_refused : {r : Result Question Refusal} (e : Refusal) {o : Read} → IsErrAnd r (λ d. d ≡ e) → meant (Err e) ≡ o → Reads r o
+reads_refused {r = r} e h m = let p = err_from_is_err_and r h in rw (p.1, p.2) (record { meaning = m; held = tt })
 
 -- ---- the changed table's ranges
 
@@ -80,9 +56,129 @@ module _ (h : Shape) (held : ShapeHeld h) (columns : List Column) where
       (rw (map_take (λ (c : L.Column). c.range) h.total (map column_of columns))
       (window h.width h.first h.total (L.ranges_of (map column_of columns)) held.inside))
 
-  pub change_field : (s : List ℕ) (kind p : ℕ)
+  change_field : (s : List ℕ) (kind p : ℕ)
       → change_at s kind h.first (ranges_at columns h.first h.width) p
       ≡ change_at s kind (L.first_of (widths_of h) h.changed) (L.table_of (widths_of h) h.changed (L.ranges_of (map column_of (take h.total columns)))) p
   change_field s kind p =
       ap (λ gs. change_at s kind h.first gs p) (sym table_is)
       ∙ ap (λ f. change_at s kind f (L.table_of (widths_of h) h.changed (L.ranges_of (map column_of (take h.total columns)))) p) held.first
+
+-- ---- none visible
+
+module _ (s : List ℕ) (kind changed : ℕ) (ws : List ℕ) (cs : List L.Column) (p : ℕ) where
+  when_seen : (l : List ℕ) → L.visible_from 0 cs ≡ l → some l ≡ true → from_condition s kind changed ws cs p ≡ from_visible s kind changed ws cs p
+  unfolding from_visible
+  when_seen [] e h = absurd (cc)
+  when_seen (i ∷ is) e h = rw e refl
+
+  when_unseen : (l : List ℕ) → L.visible_from 0 cs ≡ l → some l ≡ false → refused 8 p ≡ from_visible s kind changed ws cs p
+  unfolding from_visible
+  when_unseen [] e h = rw e refl
+  when_unseen (i ∷ is) e h = absurd (cc)
+
+-- ---- the head
+
+-- the four tests of the head, before t
+abbrev tested : {A : Type 0} → Bool → Bool → Bool → Bool → Outcome A → Outcome A
+tested a b c d t = cond a (cond b (cond c (cond d t (refused 3 3)) (refused 1 3)) (refused 2 0)) (refused 1 0)
+
+tested_good : (a b c d : Bool) (x v : Version) (t : Read) → good x ≡ tested a b c d (good v) → (tested a b c d t ≡ t) × (x ≡ v)
+tested_good true true true true x v t e = (refl, cc)
+tested_good true true true false x v t e = absurd (not_both e)
+tested_good true true false d x v t e = absurd (not_both e)
+tested_good true false c d x v t e = absurd (not_both e)
+tested_good false b c d x v t e = absurd (not_both e)
+
+tested_refused : (a b c d : Bool) (n p : ℕ) (v : Version) (t : Read) → refused n p ≡ tested a b c d (good v) → refused n p ≡ tested a b c d t
+tested_refused true true true true n p v t e = absurd (not_both (sym e))
+tested_refused true true true false n p v t e = cc
+tested_refused true true false d n p v t e = cc
+tested_refused true false c d n p v t e = cc
+tested_refused false b c d n p v t e = cc
+
+pub head_refused : (s : List ℕ) (n p : ℕ) → refused n p ≡ head s → refused n p ≡ read_of s
+unfolding head read_under from_version
+head_refused s n p e = tested_refused (leb 3 (length s)) (marked s) (leb 5 (length s)) (versioned (version_in s)) n p _ (from_tables limits s 5) e
+
+pub head_good : (s : List ℕ) (v : Version) → good v ≡ head s → (read_of s ≡ from_tables limits s 5) × (v ≡ L.version_by (get_or s 3 0))
+unfolding head read_under from_version
+head_good s v e = tested_good (leb 3 (length s)) (marked s) (leb 5 (length s)) (versioned (version_in s)) v _ (from_tables limits s 5) e
+
+module _ {s : List ℕ} {v : Version} {at : Cursor} {A : Type 0} (g : A → M.Question) {r : Result A Refusal} where
+  -- the answer, from the fields that follow the head
+  pub after_head : good v ≡ head s → at.bytes.now ≡ s → at.at ≡ 5 → Ends g (λ s p. from_tables limits s p) at r → outcome_of g r ≡ read_of s
+  after_head h b p t = t.answer ∙ rw (b, p) (sym (head_good s v h).0)
+
+-- ---- the fields, one after another
+
+module _ (shape : Shape) {A : Type 0} {g : A → M.Question} {r : Result A Refusal} where
+  -- up to the last width
+  pub from_front : {at kind_at changed_at widths_at columns_at : Cursor} {tables changed : ℕ} {verb : Verb} {widths : List ℕ}
+      → Steps (λ x. x) (λ s p. byte s 4 1 (up_to most_tables) p) at (Ok tables) kind_at
+      → Steps verb_number (λ s p. byte s 4 1 4 p) kind_at (Ok verb) changed_at
+      → Steps (λ x. x) (λ s p. byte s 4 0 tables p) changed_at (Ok changed) widths_at
+      → Steps (λ ws. take tables ws) (λ s p. many (width_at most_columns s) tables [] p) widths_at (Ok widths) columns_at
+      → widths_of shape ≡ take tables widths → shape.changed ≡ changed
+      → Ends g (λ s q. from_columns s (verb_number verb) shape.changed (widths_of shape) q) columns_at r
+      → Ends g (λ s p. from_tables limits s p) at r
+  unfolding from_tables from_kind from_changed from_widths
+  from_front t v c w same changed_is rest = ends_after _ t (ends_after _ v (ends_after _ c (ends_after _ w (rw (← changed_is, ← same) rest))))
+
+  -- the test after the last column
+  module _ (kind : ℕ) (columns : List Column) {at : Cursor} where
+    pub from_hidden : some (L.visible_from 0 (map column_of (take shape.total columns))) ≡ false → outcome_of g r ≡ refused 8 at.at
+        → Ends g (λ s q. from_visible s kind shape.changed (widths_of shape) (map column_of (take shape.total columns)) q) at r
+    from_hidden e t = record { answer = t ∙ when_unseen _ _ _ _ _ _ _ refl e }
+
+    pub from_shown : some (L.visible_from 0 (map column_of (take shape.total columns))) ≡ true
+        → Ends g (λ s q. from_condition s kind shape.changed (widths_of shape) (map column_of (take shape.total columns)) q) at r
+        → Ends g (λ s q. from_visible s kind shape.changed (widths_of shape) (map column_of (take shape.total columns)) q) at r
+    from_shown e t = record { answer = t.answer ∙ when_seen _ _ _ _ _ _ _ refl e }
+
+-- the shape's own numbers are those of the definition
+module _ (shape : Shape) (held : ShapeHeld shape) {at new : Cursor} where
+  pub with_columns : {cs : Result (List Column) Refusal} → Steps (λ cs. map column_of (take shape.total cs)) (λ s p. many (λ cs q. column_at s q) shape.total [] p) at cs new
+      → Steps (λ cs. map column_of (take shape.total cs)) (λ s p. many (λ cs q. column_at s q) (L.total (widths_of shape)) [] p) at cs new
+  with_columns s = record { same = s.same; meaning = s.meaning ∙ ap (λ k. many (λ cs q. column_at at.bytes.now q) k [] at.at) held.total }
+
+  pub with_condition : {c : Result Condition Refusal} → Steps condition_of (λ s p. condition_at s 0 shape.total p) at c new
+      → Steps condition_of (λ s p. condition_at s 0 (L.total (widths_of shape)) p) at c new
+  with_condition s = record { same = s.same; meaning = s.meaning ∙ ap (λ k. condition_at at.bytes.now 0 k at.at) held.total }
+
+  pub with_change : (kind : ℕ) (columns : List Column) {c : Result Change Refusal}
+      → Steps (change_of shape.width) (λ s p. change_at s kind shape.first (ranges_at columns shape.first shape.width) p) at c new
+      → Steps (change_of shape.width) (λ s p. change_at s kind (L.first_of (widths_of shape) shape.changed) (L.table_of (widths_of shape) shape.changed (L.ranges_of (map column_of (take shape.total columns)))) p) at c new
+  with_change kind columns s = record { same = s.same; meaning = s.meaning ∙ change_field shape held columns at.bytes.now kind at.at }
+
+-- up to the change
+module _ (shape : Shape) (held : ShapeHeld shape) (columns : List Column) {A : Type 0} {g : A → M.Question} {r : Result A Refusal} where
+  pub from_fields : {at kind_at changed_at widths_at columns_at condition_at change_at end_at : Cursor} {tables changed : ℕ} {verb : Verb} {widths : List ℕ} {condition : Condition} {change : Change}
+      → Steps (λ x. x) (λ s p. byte s 4 1 (up_to most_tables) p) at (Ok tables) kind_at
+      → Steps verb_number (λ s p. byte s 4 1 4 p) kind_at (Ok verb) changed_at
+      → Steps (λ x. x) (λ s p. byte s 4 0 tables p) changed_at (Ok changed) widths_at
+      → Steps (λ ws. take tables ws) (λ s p. many (width_at most_columns s) tables [] p) widths_at (Ok widths) columns_at
+      → widths_of shape ≡ take tables widths → shape.changed ≡ changed
+      → Steps (λ cs. map column_of (take shape.total cs)) (λ s p. many (λ cs q. column_at s q) shape.total [] p) columns_at (Ok columns) condition_at
+      → some (L.visible_from 0 (map column_of (take shape.total columns))) ≡ true
+      → Steps condition_of (λ s p. Reader.condition_at s 0 shape.total p) condition_at (Ok condition) change_at
+      → Steps (change_of shape.width) (λ s p. Reader.change_at s (verb_number verb) shape.first (ranges_at columns shape.first shape.width) p) change_at (Ok change) end_at
+      → Ends g (λ s p. ending s (L.question_from (L.version_by (get_or s 3 0)) (widths_of shape) shape.changed (map column_of (take shape.total columns)) (condition_of condition) (change_of shape.width change)) p) end_at r
+      → Ends g (λ s p. from_tables limits s p) at r
+  unfolding from_columns from_condition from_change
+  from_fields {verb = verb} t v c w same changed_is cs seen d ch rest =
+      from_front shape t v c w same changed_is
+      (ends_after _ (with_columns shape held cs)
+      (from_shown shape (verb_number verb) columns seen
+      (ends_after _ (with_condition shape held d)
+      (ends_after _ (with_change shape held (verb_number verb) columns ch) rest))))
+
+-- the end
+module _ {at : Cursor} {A : Type 0} {g : A → M.Question} where
+  pub from_more : (m : List ℕ → M.Question) {r : Result A Refusal} → at.at < length at.bytes.now → outcome_of g r ≡ refused 9 at.at → Ends g (λ s p. ending s (m s) p) at r
+  unfolding ending
+  from_more m l t = record { answer = rw (lt-ltb _ _ l) t }
+
+  pub from_end : {s : List ℕ} (v : types.Version) (h : Shape) (cs : List Column) (c : Condition) (ch : Change) {a : A} → g a ≡ question_with v h cs c ch → version_of v ≡ L.version_by (get_or s 3 0) → at.bytes.now ≡ s → length at.bytes.now ≤ at.at
+      → Ends g (λ s p. ending s (L.question_from (L.version_by (get_or s 3 0)) (widths_of h) h.changed (map column_of (take h.total cs)) (condition_of c) (change_of h.width ch)) p) at (Ok a)
+  unfolding ending
+  from_end v h cs c ch e o b l = record { answer = rw (le-ltb _ _ l, b, e, ← o) refl }

@@ -1,16 +1,19 @@
 -- Bytes put into a room: one after another, and what stands there in the end.
-use Prim.Native.Nat.{ℕ, zero, suc, ◌+◌, ◌-◌, ◌≤◌, ◌<◌}
+use Prim.Native.Nat.{ℕ, ◌+◌, ◌≤◌, ◌<◌}
 use mathlib.Core.Path.{◌≡◌, refl, sym, ap, ◌∙◌}
-use mathlib.Core.Bool.{Bool, true, false, cond}
-use mathlib.Core.List.{List, [], ◌∷◌, ◌++◌, append_assoc, append-nil}
+use mathlib.Core.Bool.{Bool, true, false, cond, true≢false}
+use mathlib.Core.List.{List, [], ◌∷◌, ◌++◌, append-nil}
 use native.Mathlib.Numerals.{add-one}
 use native.Mathlib.Omega.{arith}
 use native.Mathlib.Decide.{dec_lt}
 use lib.Dec.{ltb}
-use lib.ListN.{length, get_or, take, drop, set, replicate, length-set, drop_of_length-le}
-use lib.Seq.{drop-cons, take-suc-set, append_snoc, take_all}
+use lib.ListN.{length, get_or, take, drop, set, length-set, drop_of_length-le}
+use lib.Seq.{drop-cons, take-suc-set, append_snoc}
 use borrow.Author.Tests.{lt-ltb, le-ltb}
-use Rattle.room.specs.Room.{Filling, stored, put_one, puts}
+use Rattle.std.specs.Prelude.{Result, Ok, Err, IsErr}
+use Rattle.room.specs.declared.Sink.{Sink}
+use Rattle.room.specs.declared.Full.{Full}
+use Rattle.room.specs.Room.{Filling, filling, stopped, stored, put_one, puts}
 
 pub puts_append : (f : Filling) (bs cs : List ℕ) → puts f (bs ++ cs) ≡ puts (puts f bs) cs
 unfolding puts
@@ -18,9 +21,9 @@ puts_append f [] cs = refl
 puts_append f (b ∷ bs) cs = puts_append (put_one f b) bs cs
 
 -- the next of some bytes
-pub puts_next : (f : Filling) (bs : List ℕ) (i : ℕ) → i < length bs → puts f (drop i bs) ≡ puts (put_one f (get_or bs i 0)) (drop (i + 1) bs)
+pub puts_next : (f g : Filling) (bs : List ℕ) (i : ℕ) → i < length bs → g ≡ put_one f (get_or bs i 0) → puts g (drop (i + 1) bs) ≡ puts f (drop i bs)
 unfolding puts
-puts_next f bs i h = rw (add-one, drop-cons bs i 0 h)
+puts_next f g bs i h e = rw (add-one, drop-cons bs i 0 h, e) refl
 
 -- ---- one byte, by cases
 
@@ -38,6 +41,15 @@ put_fits f b e h = rw (e, lt-ltb f.at (length f.bytes) h)
 
 pub put_full : (f : Filling) (b : ℕ) → f.over ≡ false → length f.bytes ≤ f.at → record { bytes = f.bytes; at = f.at; over = true } ≡ put_one f b
 put_full f b e h = rw (e, le-ltb f.at (length f.bytes) h)
+
+-- a result that is handed on where a byte found no room
+pub stopped_is : {A : Type 0} (t : Sink) (r : Result A Full) → IsErr r → filling t r ≡ stopped t
+stopped_is t (Ok x) i = absurd (true≢false (sym i))
+stopped_is t (Err x) i = refl
+
+-- whatever was to come after that
+pub stops : {A : Type 0} (t : Sink) (r : Result A Full) (f : Filling) (bs : List ℕ) → IsErr r → stopped t ≡ f → filling t r ≡ puts f bs
+stops t r f bs i h = stopped_is t r i ∙ h ∙ sym (puts_over f bs (ap (λ g. g.over) (sym h)))
 
 -- ---- the length stays
 
@@ -88,20 +100,3 @@ puts_past f (b ∷ bs) m h = go (λ g k l. puts_past g bs k l) f.over refl (dec_
 pub puts_end : (f : Filling) (bs : List ℕ) (i : ℕ) → length bs ≤ i → puts f (drop i bs) ≡ f
 unfolding puts
 puts_end f bs i h = rw (drop_of_length-le bs h)
-
--- ---- zeros to the end
-
-zeros_snoc : (n : ℕ) → replicate n 0 ++ (0 ∷ []) ≡ replicate {A = ℕ} (suc n) 0
-zeros_snoc zero = refl
-zeros_snoc (suc n) = ap (λ x. 0 ∷ x) (zeros_snoc n)
-
-pub clear_step : (room front : List ℕ) (from i : ℕ) → from ≤ i → i < length room → take i room ≡ front ++ replicate (i - from) 0 → take (i + 1) (set room i 0) ≡ front ++ replicate (i + 1 - from) 0
-clear_step room front from i a h e =
-    let d : i + 1 - from ≡ suc (i - from) = omega arith in
-    ap (λ n. take n (set room i 0)) (add-one i) ∙ take-suc-set room i 0 h ∙ ap (λ x. x ++ (0 ∷ [])) e ∙ append_assoc front (replicate (i - from) 0) (0 ∷ []) ∙ ap (λ x. front ++ x) (zeros_snoc (i - from)) ∙ ap (λ n. front ++ replicate n 0) (sym d)
-
-pub clear_start : (room : List ℕ) (from : ℕ) → take from room ≡ take from room ++ replicate (from - from) 0
-clear_start room from = let d : from - from ≡ 0 = omega arith in rw d (sym (append-nil (take from room)))
-
-pub clear_end : (room front : List ℕ) (from i n : ℕ) → i ≤ length room → length room ≤ i → length room ≡ n → take i room ≡ front ++ replicate (i - from) 0 → room ≡ front ++ replicate (n - from) 0
-clear_end room front from i n a b l e = let d : i ≡ length room = omega arith in sym (take_all i room b) ∙ e ∙ ap (λ m. front ++ replicate (m - from) 0) (d ∙ l)

@@ -1,7 +1,8 @@
 -- Writing into a lent room that may be too short: bytes go in one after another while there is room, and the first that finds none is the
 -- last to count.
-use Rattle.std.specs.Prelude.{ℕ, ◌+◌, Bool, true, false, cond, List, [], ◌∷◌, length, set, ltb}
-use Rattle.room.specs.declared.Spot.{Spot}
+use Rattle.std.specs.Prelude.{ℕ, ◌+◌, Bool, true, false, cond, List, [], ◌∷◌, length, set, ltb, Result, Ok, Err}
+use Rattle.room.specs.declared.Sink.{Sink}
+use Rattle.room.specs.declared.Full.{Full}
 
 -- a room's bytes; where the next byte goes; whether a byte found no room
 pub record Filling : Type 0 where
@@ -9,8 +10,22 @@ pub record Filling : Type 0 where
   pub at : ℕ
   pub over : Bool
 
-abbrev pub filling : List ℕ → Spot → Filling
-filling bytes s = record { bytes = bytes; at = s.at; over = s.over }
+-- before anything is put
+abbrev pub started : List ℕ → Filling
+started bytes = record { bytes = bytes; at = 0; over = false }
+
+-- before something is put
+abbrev pub begun : Sink → Filling
+begun s = record { bytes = s.room.now; at = s.at; over = false }
+
+-- after a byte that found no room
+abbrev pub stopped : Sink → Filling
+stopped s = record { bytes = s.room.now; at = s.at; over = true }
+
+-- after something was put, with this result
+abbrev pub filling : {A : Type 0} → Sink → Result A Full → Filling
+filling s (Ok x) = begun s
+filling s (Err e) = stopped s
 
 abbrev pub stored : List ℕ → ℕ → ℕ → Bool → Filling
 stored bytes at b true = record { bytes = set bytes at b; at = at + 1; over = false }

@@ -1,5 +1,5 @@
 -- What a sight means: the term that stands for each column.
-use Rattle.std.specs.Prelude.{ℕ, suc, ◌+◌, ◌≤◌, ◌<◌, ◌≡◌, Bool, true, false, cond, List, [], ◌∷◌, ◌++◌, map, length, get_or, take, replicate, pos, neg_ℤ, ◌≤ℤ◌}
+use Rattle.std.specs.Prelude.{ℕ, suc, ◌+◌, ◌≤◌, ◌<◌, ◌≡◌, Bool, true, false, cond, List, [], ◌∷◌, ◌++◌, map, length, get_or, replicate, pos, neg_ℤ, ◌≤ℤ◌}
 use Rattle.page_meaning.specs.Limits.{most_columns}
 use Rattle.page_meaning.specs.Contents.{Range, Mode, keep, become, shift}
 use Rattle.page_meaning.specs.Contents as M
@@ -10,8 +10,10 @@ use Rattle.question.specs.declared.types.Column.{Column}
 use Rattle.page_formulas.specs.Compilation as C
 use Rattle.page_formulas.specs.Program as P
 use Rattle.page_formulas.specs.Formulas.{vertex, first_sight, second_sight, new_term}
-use Rattle.program.specs.Built.{term_of}
+use Rattle.program.specs.Meanings.{term_of}
 use Rattle.program.specs.declared.types.Term.{Term}
+use Rattle.sights.specs.declared.types.Modes.{Modes}
+use Rattle.sights.specs.declared.types.Modes.TheVariants.{Row, Settings}
 use Rattle.sights.specs.declared.types.Sight.{Sight}
 
 -- ---- a question's columns
@@ -40,11 +42,11 @@ no_range = record { lo = pos 0; hi = pos 0 }
 
 -- a column of the sight
 abbrev pub Has : Sight → ℕ → Type 0
-Has s i = i < s.total
+Has s i = i < length s.columns.now
 
 -- whether each column is visible, and the numbers of those that are, from number i on
 abbrev pub flags_of : Sight → List Bool
-flags_of s = take s.total s.visible
+flags_of s = map (λ c. c.visible) s.columns.now
 
 unfoldable pub shown_from : ℕ → List Bool → List ℕ
 shown_from i [] = []
@@ -59,11 +61,15 @@ vertex_of second visible n i = cond second (cond visible (suc i) (suc (n + i))) 
 
 -- the row as it is
 abbrev pub row_of : Sight → C.Sight
-row_of s i = vertex (vertex_of s.second (get_or (flags_of s) i false) s.total i)
+row_of s i = vertex (vertex_of s.second (get_or (flags_of s) i false) (length s.columns.now) i)
 
 -- the modes of the changed table's columns, and of each column
+abbrev pub modes_by : Modes → List Mode
+modes_by (Row values) = map become values.now
+modes_by (Settings settings) = map setting_of settings.now
+
 abbrev pub modes_of : Sight → List Mode
-modes_of s = map setting_of (take s.modes s.settings)
+modes_of s = modes_by s.modes
 
 abbrev pub mode_in : Sight → ℕ → Mode
 mode_in s i = cond s.moved (get_or (replicate s.first keep ++ modes_of s) i keep) keep
@@ -75,12 +81,10 @@ abbrev pub ReadsIf : Bool → (ℕ → Type 0) → List Mode → Type 0
 ReadsIf true P ms = Reads P ms
 ReadsIf false P ms = Unit {0}
 
--- its numbers are in order, its arrays as long as declared, and its new values come from its columns
+-- its numbers are in order, and its new values come from its columns
 pub record Usable (s : Sight) : Type 0 where
-  pub inside : s.first + s.modes ≤ s.total
-  pub few : s.total ≤ most_columns
-  pub long : length s.settings ≡ most_columns
-  pub flags : length s.visible ≡ most_columns
+  pub inside : s.first + length (modes_of s) ≤ length s.columns.now
+  pub few : length s.columns.now ≤ most_columns
   pub reads : ReadsIf s.moved (Has s) (modes_of s)
 
 -- what stands for a column: its offset is an i32

@@ -1,13 +1,14 @@
 // Which term stands for a column, on either row and after the change.
-ghost use Rattle.std.specs.Prelude.{◌≡◌, ◌<◌, ◌≤◌};
+ghost use Rattle.std.specs.Prelude.{◌≡◌, ◌<◌, ◌≤◌, length, get_or};
+ghost use Rattle.page_meaning.specs.Contents.{keep};
 ghost use Rattle.page_meaning.specs.Limits.{most_columns};
 ghost use Rattle.page_meaning.specs.WellFormed.{SideUses};
 ghost use Rattle.question.specs.Held.{mode_of, side_of, question_of};
 ghost use Rattle.page_formulas.specs.Compilation.{constant_term, side_term};
-ghost use Rattle.program.specs.Built.{term_of, Near};
-ghost use Rattle.sights.specs.Sights.{row_sight, vertex_of, row_of, mode_in, sight_of, There, Whole, Has, Usable, Stands, ModeReads};
+ghost use Rattle.program.specs.Meanings.{term_of};
+ghost use Rattle.sights.specs.Sights.{row_sight, vertex_of, row_of, mode_in, modes_by, sight_of, There, Whole, Has, Usable, Stands, ModeReads};
 
-use crate::types::Sight;
+use crate::types::{Modes, Sight};
 use ints::weights::{sum, wide};
 use program::types::Term;
 use question::types::{Mode, Question, Side};
@@ -17,56 +18,26 @@ pub fn vertex_of(second: bool, visible: bool, n: usize, i: u8) -> u8
     requires { (n ≤ most_columns) × (i < n) }
     ensures { result ≡ vertex_of second visible n i }
 {
-    if second {
-        if visible {
-            return i + 1;
-        }
-        let hidden = n as u8;
-        return hidden + i + 1;
+    if second && !visible {
+        return n as u8 + i + 1;
     }
     i + 1
 }
 
-// The same of a question's column.
-pub fn vertex_at(q: Question, second: bool, i: u8) -> u8
-    requires { Whole q × There q i }
-    ensures { result ≡ (row_sight (question_of q) second i).vertex }
+// A question's array of columns is as long as declared: a reference alone does not tell the proof so, a read does.
+pub fn whole(q: &Question)
+    ensures { Whole q.now }
 {
-    let at = i as usize;
-    let column = q.columns[at];
-    vertex_of(second, column.visible, q.shape.total, i)
+    let _ = q.columns[0].visible;
 }
 
-// And of a sight's.
-pub fn vertex_in(s: Sight, i: u8) -> u8
-    requires { Usable s × Has s i }
-    ensures { result ≡ (row_of s i).vertex }
+// The vertex of a question's column.
+pub fn vertex_at(q: &Question, second: bool, i: u8) -> u8
+    requires { Whole q.now × There q.now i }
+    ensures { result ≡ (row_sight (question_of q.now) second i).vertex }
 {
     let at = i as usize;
-    let visible = s.visible[at];
-    vertex_of(s.second, visible, s.total, i)
-}
-
-// What becomes of a column; a sight that does not move keeps them all.
-pub fn mode_at(s: Sight, i: u8) -> Mode
-    requires { Usable s }
-    ensures { (mode_of result ≡ mode_in s i) × ModeReads (Has s) (mode_of result) }
-{
-    let at = i as usize;
-    let first = s.first;
-    let modes = s.modes;
-    if s.moved {
-        if at < first {
-            return Mode::Keep;
-        }
-        let j = at - first;
-        if modes <= j {
-            return Mode::Keep;
-        }
-        let setting = s.settings[j];
-        return setting.mode;
-    }
-    Mode::Keep
+    vertex_of(second, q.columns[at].visible, q.shape.total, i)
 }
 
 // A constant stands at vertex 0.
@@ -79,42 +50,86 @@ pub fn constant(k: i32) -> Term
     }
 }
 
-pub fn term_at(s: Sight, i: u8) -> Term
-    requires { Usable s × Has s i }
-    ensures { Stands result (sight_of s i) }
-{
-    let mode = mode_at(s, i);
-    match mode {
-        Mode::Keep => Term {
-            vertex: vertex_in(s, i),
-            offset: 0,
-        },
-        Mode::Become(k) => Term {
-            vertex: 0,
-            offset: wide(k),
-        },
-        Mode::Shift(j, k) => Term {
-            vertex: vertex_in(s, j),
-            offset: wide(k),
-        },
+impl Modes<'_> {
+    // How many columns they are of.
+    pub fn count(&self) -> usize
+        ensures { result ≡ length (modes_by self.now) }
+    {
+        match *self {
+            Modes::Row(values) => values.len(),
+            Modes::Settings(settings) => settings.len(),
+        }
+    }
+
+    // What becomes of the changed table's column j.
+    fn at(&self, j: usize) -> Mode
+        ensures { mode_of result ≡ get_or (modes_by self.now) j keep }
+    {
+        match *self {
+            Modes::Row(values) => match values.get(j) {
+                Some(k) => Mode::Become(*k),
+                None => Mode::Keep,
+            },
+            Modes::Settings(settings) => match settings.get(j) {
+                Some(s) => s.mode,
+                None => Mode::Keep,
+            },
+        }
     }
 }
 
-// A comparison's right side.
-pub fn side_at(s: Sight, side: Side) -> Term
-    requires { Usable s × SideUses (Has s) (side_of side) }
-    ensures { (term_of result ≡ side_term (sight_of s) (side_of side)) × Near result }
-{
-    match side {
-        Side::Constant(k) => Term {
-            vertex: 0,
-            offset: wide(k),
-        },
-        Side::Column(i, k) => {
-            let t = term_at(s, i);
-            Term {
-                vertex: t.vertex,
-                offset: sum(t.offset, wide(k)),
+impl Sight<'_> {
+    // The vertex of a column as it is.
+    pub fn vertex(&self, i: u8) -> u8
+        requires { Usable self.now × Has self.now i }
+        ensures { result ≡ (row_of self.now i).vertex }
+    {
+        let at = i as usize;
+        vertex_of(self.second, self.columns[at].visible, self.columns.len(), i)
+    }
+
+    // What becomes of a column; a sight that does not move keeps them all.
+    pub fn mode(&self, i: u8) -> Mode
+        requires { Usable self.now }
+        ensures { (mode_of result ≡ mode_in self.now i) × ModeReads (Has self.now) (mode_of result) }
+    {
+        let at = i as usize;
+        if !self.moved || at < self.first {
+            return Mode::Keep;
+        }
+        self.modes.at(at - self.first)
+    }
+
+    pub fn term(&self, i: u8) -> Term
+        requires { Usable self.now × Has self.now i }
+        ensures { Stands result (sight_of self.now i) }
+    {
+        match self.mode(i) {
+            Mode::Keep => Term {
+                vertex: self.vertex(i),
+                offset: 0,
+            },
+            Mode::Become(k) => constant(k),
+            Mode::Shift(j, k) => Term {
+                vertex: self.vertex(j),
+                offset: wide(k),
+            },
+        }
+    }
+
+    // A comparison's right side.
+    pub fn side(&self, side: Side) -> Term
+        requires { Usable self.now × SideUses (Has self.now) (side_of side) }
+        ensures { term_of result ≡ side_term (sight_of self.now) (side_of side) }
+    {
+        match side {
+            Side::Constant(k) => constant(k),
+            Side::Column(i, k) => {
+                let t = self.term(i);
+                Term {
+                    vertex: t.vertex,
+                    offset: sum(t.offset, wide(k)),
+                }
             }
         }
     }

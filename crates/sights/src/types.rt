@@ -1,16 +1,21 @@
 // The declared types: what a column's term is read from. specs/Sights says what it means.
-use limits::COLUMNS;
-use question::types::Setting;
+use question::types::{Column, Setting};
 
-// Which term stands for a column: of the first row or of the second, as it is or moved by the settings. There are `total` columns; the
-// first `modes` settings are of those from number `first` on; `visible` is false past the last column.
+// What becomes of the changed table's columns, from its first on: the values of a row that is put in, or what the settings say. Columns
+// past the last one named are kept.
 #[derive(Clone, Copy)]
-pub struct Sight {
-    pub settings: [Setting; COLUMNS],
-    pub visible: [bool; COLUMNS],
+pub enum Modes<'a> {
+    Row(&'a [i32]),
+    Settings(&'a [Setting]),
+}
+
+// Which term stands for a column: of the first row or of the second, as it is or moved by the modes, which are of the columns from number
+// `first` on.
+#[derive(Clone, Copy)]
+pub struct Sight<'a> {
+    pub columns: &'a [Column],
+    pub modes: Modes<'a>,
     pub first: usize,
-    pub modes: usize,
-    pub total: usize,
     pub second: bool,
     pub moved: bool,
 }

@@ -3,4 +3,3 @@
 
 pub mod openings;
 mod search;
-pub mod types;

@@ -1,63 +1,52 @@
 // Whether a formula is true at some values: in range, or such that meet given facts.
-ghost use Rattle.std.specs.Prelude.{suc};
-ghost use Rattle.page_meaning.specs.Limits.{most_vertices};
-ghost use Rattle.page_walks.specs.Sizes.{Sized};
+ghost use Rattle.std.specs.Prelude.{suc, ◌≡◌, []};
 ghost use Rattle.page_formulas.specs.Program.{Program};
-ghost use Rattle.page_formulas.specs.Formulas.{Formula};
+ghost use Rattle.page_formulas.specs.Formulas as written;
 ghost use Rattle.page_formulas.specs.ProperFormulas.{Proper};
-ghost use Rattle.program.specs.Compiled.{Compiled, Fine, formula_of};
-ghost use Rattle.program_tree.specs.Nodes.{tree_of, Tells};
+ghost use Rattle.program.specs.Compiled.{Compiled, Fine};
+ghost use Rattle.program_tree.specs.Nodes.{Tells};
 ghost use Rattle.goals.specs.Closures.{Tight};
-ghost use Rattle.goals.specs.Goals.{TrueAt, TrueUnder, Opens};
+ghost use Rattle.goals.specs.Goals.{waiting, TrueAt, TrueUnder, Opens};
 
 use crate::search::solve;
-use crate::types::Opened;
-use limits::{INSTRUCTIONS, PLACES, VERTICES};
-use program::types::Outline;
-use program_tree::nodes::lay;
-use program_tree::types::{Extent, ROW};
+use goals::types::{Goal, State};
+use grid::Grid;
+use limits::{INSTRUCTIONS, VERTICES};
+use program::types::Formula;
+use program_tree::types::Tree;
 use spreads::begin;
 
-// Of a formula's tree, under the facts of a closure, which the search takes for its own.
-pub fn opens_under(
-    nodes: &[[u16; ROW]; INSTRUCTIONS],
-    most: &[i64; INSTRUCTIONS],
-    ext: Extent,
-    near: &mut [[i64; VERTICES]; VERTICES],
-) -> Opened
-    requires { ((p : Program) × Tells (tree_of nodes.now most.now ext) p) × Sized most_vertices near.old × Tight (suc ext.last) near.old }
-    ensures { (p : Program) → Tells (tree_of nodes.now most.now ext) p → Opens result.open result.values (TrueUnder p ext.last near.old) }
+// Of a tree, under the facts of a state in which no goal waits.
+fn open(tree: &Tree, state: &mut State) -> Option<[i64; VERTICES]>
+    requires { ((p : Program) × Tells tree.now p) × Tight (suc tree.now.last) state.old.near.rows × (waiting state.old ≡ []) }
+    ensures { (p : Program) → Tells tree.now p → Opens result (TrueUnder p tree.now.last state.old.near.rows) }
 {
-    let mut waiting = [0u16; INSTRUCTIONS];
-    solve(nodes, most, ext, near, &mut waiting, 0, ext.count - 1, true)
+    solve(tree, state, tree.count - 1, true).ok()
 }
 
-// Of a compiled formula, its program lent, under the facts of its ranges.
-pub fn formula_opens<'a>(
-    kinds: &'a [u8; INSTRUCTIONS],
-    left: &'a [u8; PLACES],
-    right: &'a [u8; PLACES],
-    most: &'a [i64; PLACES],
-    o: Outline,
-) -> Opened
-    requires { Fine (formula_of kinds.now left.now right.now most.now o) }
-    ensures { (F : Formula) → Compiled (formula_of kinds.now left.now right.now most.now o) F → Proper F → Opens result.open result.values (TrueAt F) }
+// Of a formula's tree, under the facts of a closure.
+pub fn opens_under(tree: &Tree, near: Grid) -> Option<[i64; VERTICES]>
+    requires { ((p : Program) × Tells tree.now p) × Tight (suc tree.now.last) near.rows }
+    ensures { (p : Program) → Tells tree.now p → Opens result (TrueUnder p tree.now.last near.rows) }
 {
-    let count = o.vertices.count;
-    let mut near = [[0i64; VERTICES]; VERTICES];
-    begin(
-        &mut near,
-        count,
-        &o.vertices.present,
-        &o.vertices.lo,
-        &o.vertices.hi,
-    );
-    let mut nodes = [[0u16; ROW]; INSTRUCTIONS];
-    let mut weights = [0i64; INSTRUCTIONS];
-    lay(kinds, left, right, most, o.count, &mut nodes, &mut weights);
-    let ext = Extent {
-        count: o.count,
-        last: count - 1,
+    let mut state = State::new(near);
+    open(tree, &mut state)
+}
+
+// Of a compiled formula, under the facts of its ranges.
+pub fn formula_opens(f: &Formula) -> Option<[i64; VERTICES]>
+    requires { Fine f.now }
+    ensures { (F : written.Formula) → Compiled f.now F → Proper F → Opens result (TrueAt F) }
+{
+    let tree = Tree::plant(&f.program, f.vertices.count - 1);
+    // made in place, since a state that a function returns is copied
+    let mut state = State {
+        near: Grid {
+            rows: [[0; VERTICES]; VERTICES],
+        },
+        goals: [Goal { at: 0, want: false }; INSTRUCTIONS],
+        count: 0,
     };
-    opens_under(&nodes, &weights, ext, &mut near)
+    begin(&mut state.near, &f.vertices);
+    open(&tree, &mut state)
 }

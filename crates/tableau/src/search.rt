@@ -1,87 +1,46 @@
 // The tableau: what needs no choice comes first, then every goal that waits is looked at, and only then is one of them split.
-ghost use Rattle.std.specs.Prelude.{ℕ, ◌+◌, ◌≤◌, ◌<◌, ◌≡◌, Bool, false, ◌∷◌, length};
+ghost use Rattle.std.specs.Prelude.{ℕ, Bool, ◌∷◌};
+ghost use Rattle.std.specs.Result.{result_ok};
 ghost use Rattle.page_formulas.specs.Program.{Values};
-ghost use Rattle.page_formulas.specs.Costs.{most_instructions};
-ghost use Rattle.program_tree.specs.Nodes.{tree_of, size_at, Describes};
-ghost use Rattle.goals.specs.Goals.{goal, stack_of, total, Standing, Takes, Solves, Opens};
+ghost use Rattle.program_tree.specs.Nodes.{Describes};
+ghost use Rattle.goals.specs.Goals.{goal, waiting, Asks, Leaves, Solves, Opens};
 
-use crate::types::Opened;
 use goals::demands::demand;
-use goals::goals::{goal_at, goal_want};
-use goals::types::Taken;
-use limits::{INSTRUCTIONS, VERTICES};
-use program_tree::types::{Extent, ROW};
+use goals::types::{Contradiction, State};
+use limits::VERTICES;
+use program_tree::types::Tree;
 use tableau_choice::choice::{halves, take};
 use tableau_sieve::sieve::settle;
 
 // All that needs no choice, with instruction i wanted so.
-fn advance(
-    nodes: &[[u16; ROW]; INSTRUCTIONS],
-    most: &[i64; INSTRUCTIONS],
-    ext: Extent,
-    near: &mut [[i64; VERTICES]; VERTICES],
-    waiting: &mut [u16; INSTRUCTIONS],
-    n: usize,
-    i: usize,
-    want: bool,
-) -> Taken
-    requires { Standing (tree_of nodes.now most.now ext) near.old (stack_of waiting.old n) × (i < ext.count) × (size_at (tree_of nodes.now most.now ext) i + total (tree_of nodes.now most.now ext) (stack_of waiting.old n) ≤ most_instructions) × (length waiting.old ≡ most_instructions) }
-    ensures { Takes (tree_of nodes.now most.now ext) near.old (goal i want ∷ stack_of waiting.old n) result.closed near.new (stack_of waiting.new result.count) × (length waiting.new ≡ most_instructions) }
+fn advance(tree: &Tree, state: &mut State, i: usize, want: bool) -> Result<(), Contradiction>
+    requires { Asks tree.now state.old i }
+    ensures { Leaves tree.now state.old (goal i want ∷ waiting state.old) result state.new }
 {
-    let d = demand(nodes, most, ext, near, waiting, n, i, want);
-    if d.closed {
-        return d;
-    }
-    settle(nodes, most, ext, near, waiting, d.count)
+    demand(tree, state, i, want)?;
+    settle(tree, state)
 }
 
-// There are none.
-fn shut() -> Opened
-    ensures { result.open ≡ false }
-{
-    Opened {
-        open: false,
-        values: [0i64; VERTICES],
-    }
-}
-
-// Are there values that meet the facts, at which instruction i and every goal that waits are as wanted? At a split one operand is
-// wanted, on copies of facts and goals; if that leads nowhere, the other is and the one is not, so that nothing is looked at twice.
+// The values that meet the facts, at which instruction i and every goal that waits are as wanted. At a split one operand is wanted, on a
+// copy of facts and goals; if that leads nowhere, the other is and the one is not, so that nothing is looked at twice.
 pub fn solve(
-    nodes: &[[u16; ROW]; INSTRUCTIONS],
-    most: &[i64; INSTRUCTIONS],
-    ext: Extent,
-    near: &mut [[i64; VERTICES]; VERTICES],
-    waiting: &mut [u16; INSTRUCTIONS],
-    n: usize,
+    tree: &Tree,
+    state: &mut State,
     i: usize,
     want: bool,
-) -> Opened
-    requires { Standing (tree_of nodes.now most.now ext) near.old (stack_of waiting.old n) × (i < ext.count) × (size_at (tree_of nodes.now most.now ext) i + total (tree_of nodes.now most.now ext) (stack_of waiting.old n) ≤ most_instructions) × (length waiting.old ≡ most_instructions) }
-    ensures { (v : Values → ℕ → Bool) → Describes (tree_of nodes.now most.now ext) v → Opens result.open result.values (Solves (tree_of nodes.now most.now ext) v near.old (goal i want ∷ stack_of waiting.old n)) }
+) -> Result<[i64; VERTICES], Contradiction>
+    requires { Asks tree.now state.old i }
+    ensures { (v : Values → ℕ → Bool) → Describes tree.now v → Opens (result_ok result) (Solves tree.now v state.old.near.rows (goal i want ∷ waiting state.old)) }
 {
-    let s = advance(nodes, most, ext, near, waiting, n, i, want);
-    if s.closed {
-        return shut();
+    advance(tree, state, i, want)?;
+    let Some(g) = take(tree, state) else {
+        return Ok(state.near.rows[0]);
+    };
+    let h = halves(tree, g.at as usize);
+    let mut copy = *state;
+    if let Ok(values) = solve(tree, &mut copy, h.one, g.want) {
+        return Ok(values);
     }
-    let count = s.count;
-    if count == 0 {
-        let values = near[0];
-        return Opened { open: true, values };
-    }
-    let g = take(nodes, waiting, count);
-    let wish = goal_want(g);
-    let h = halves(nodes, goal_at(g));
-    let mut facts = *near;
-    let mut goals = *waiting;
-    let rest = count - 1;
-    let r = solve(nodes, most, ext, &mut facts, &mut goals, rest, h.one, wish);
-    if r.open {
-        return r;
-    }
-    let e = demand(nodes, most, ext, near, waiting, rest, h.one, !wish);
-    if e.closed {
-        return r;
-    }
-    solve(nodes, most, ext, near, waiting, e.count, h.other, wish)
+    demand(tree, state, h.one, !g.want)?;
+    solve(tree, state, h.other, g.want)
 }

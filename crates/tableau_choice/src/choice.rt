@@ -1,28 +1,24 @@
 // Which goal is split, and which of its operands is wanted first: the smallest, since that leaves the least to choose.
-ghost use Rattle.std.specs.Prelude.{◌-◌, ◌≤◌, ◌<◌, ◌≡◌, length};
+ghost use Rattle.std.specs.Prelude.{◌-◌, ◌≤◌, ◌<◌};
 ghost use Rattle.page_formulas.specs.Costs.{most_instructions};
-ghost use Rattle.program_tree.specs.Nodes.{cell};
+ghost use Rattle.program_tree.specs.Nodes.{size_at};
 ghost use Rattle.tableau_choice.specs.Choices.{InTree, TakenOut, Operands};
 
 use crate::types::Halves;
-use goals::goals::goal_at;
-use limits::INSTRUCTIONS;
-use program_tree::operands::{first_of, size_of};
-use program_tree::types::ROW;
+use goals::types::{Goal, State};
+use program_tree::types::Tree;
 
-// Where the smallest of the goals that wait stands.
-fn smallest(nodes: &[[u16; ROW]; INSTRUCTIONS], waiting: &[u16; INSTRUCTIONS], n: usize) -> usize
-    requires { (0 < n) × (n ≤ most_instructions) × InTree waiting.now n }
-    ensures { result < n }
+// Where the smallest of the goals that wait stands, of several the last.
+fn smallest(tree: &Tree, state: &State) -> usize
+    requires { (0 < state.now.count) × InTree state.now }
+    ensures { result < state.now.count }
 {
-    let mut at = n - 1;
-    let mut least = size_of(nodes, goal_at(waiting[at]));
-    let mut k = n - 1;
-    while 0 < k {
-        k -= 1;
-        let s = size_of(nodes, goal_at(waiting[k]));
-        if s < least {
-            least = s;
+    let mut at = state.count - 1;
+    let mut least = tree.nodes[state.goals[at].at as usize].size;
+    for k in (0..state.count - 1).rev() {
+        let size = tree.nodes[state.goals[k].at as usize].size;
+        if size < least {
+            least = size;
             at = k;
         }
     }
@@ -30,27 +26,28 @@ fn smallest(nodes: &[[u16; ROW]; INSTRUCTIONS], waiting: &[u16; INSTRUCTIONS], n
 }
 
 // It is taken out, and the last takes its place.
-pub fn take(nodes: &[[u16; ROW]; INSTRUCTIONS], waiting: &mut [u16; INSTRUCTIONS], n: usize) -> u16
-    requires { (0 < n) × (n ≤ most_instructions) × InTree waiting.old n × (length waiting.old ≡ most_instructions) }
-    ensures { TakenOut waiting.old n result waiting.new }
+pub fn take(tree: &Tree, state: &mut State) -> Option<Goal>
+    requires { InTree state.old }
+    ensures { TakenOut state.old result state.new }
 {
-    let at = smallest(nodes, waiting, n);
-    let g = waiting[at];
-    let last = waiting[n - 1];
-    waiting[at] = last;
-    g
+    if state.count == 0 {
+        return None;
+    }
+    let at = smallest(tree, state);
+    let g = state.goals[at];
+    state.count -= 1;
+    state.goals[at] = state.goals[state.count];
+    Some(g)
 }
 
 // The operands of instruction j.
-pub fn halves(nodes: &[[u16; ROW]; INSTRUCTIONS], j: usize) -> Halves
-    requires { (j < most_instructions) × (cell nodes.now (j - 1) 1 < j) }
-    ensures { Operands nodes.now j result.one result.other }
+pub fn halves(tree: &Tree, j: usize) -> Halves
+    requires { (j < most_instructions) × (size_at tree.now (j - 1) < j) }
+    ensures { Operands tree.now j result.one result.other }
 {
-    let first = first_of(nodes, j);
+    let first = tree.first_of(j);
     let second = j - 1;
-    let a = size_of(nodes, first);
-    let b = size_of(nodes, second);
-    if b < a {
+    if tree.nodes[second].size < tree.nodes[first].size {
         return Halves {
             one: second,
             other: first,

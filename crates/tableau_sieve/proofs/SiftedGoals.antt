@@ -1,24 +1,23 @@
 -- The goals that wait, sifted: what is known of two operands of which one is enough, and what it leaves to do.
-use Prim.Native.Nat.{ℕ, suc, ◌+◌, ◌-◌, ◌≤◌, ◌<◌}
-use mathlib.Core.Path.{◌≡◌, refl, sym, ap, ◌∙◌, subst}
-use mathlib.Core.Logic.{◌⊎◌, inl, inr}
-use mathlib.Core.Bool.{Bool, true, false, not, cond, true≢false}
-use mathlib.Core.List.{List, [], ◌∷◌}
-use native.Mathlib.Omega.{arith}
-use lib.ListN.{get_or}
+use Rattle.std.proofs.Common.{ℕ, suc, ◌+◌, ◌-◌, ◌≤◌, ◌<◌, ◌≡◌, sym, ap, ◌∙◌, subst, ◌⊎◌, inl, inr, Bool, true, false, not, true≢false, List, [], ◌∷◌, get_or, Result, Ok, Err, arith}
 use Rattle.page_walks.specs.Grid.{Grid, weight}
 use Rattle.page_walks.specs.Walk.{Sat}
 use Rattle.page_formulas.specs.Program.{Values}
 use Rattle.page_formulas.specs.Knowledge.{Three, fails, passes, open?}
 use Rattle.page_formulas.specs.Truths.{Says}
+use Rattle.truth.specs.Values.{three_of}
+use Rattle.truth.specs.declared.truths.Truth.{Truth}
+use Rattle.truth.specs.declared.truths.Truth.TheVariants.{Fails}
+use Rattle.program_tree.specs.declared.types.Tree.{Tree}
 use Rattle.program_tree.specs.Nodes.{size_at, first_at, Describes}
-use Rattle.goals.specs.Goals.{Goal, goal, Granted, total, Waits, Waiting, Solves, Standing, Takes, Sifts}
-use Rattle.views.specs.Views.{three_by, Sees}
-use Rattle.program_tree.specs.Nodes.{Tree}
+use Rattle.goals.specs.declared.types.Contradiction.{Contradiction}
+use Rattle.goals.specs.declared.types.Goal.{Goal}
+use Rattle.goals.specs.Goals.{goal, Granted, total, Waits, Waiting, Solves, Standing, Leads, Shut, Takes, Sifted}
+use Rattle.goals.proofs.AskedInstructions.{smaller, met_on, met_back, takes_same}
+use Rattle.views.specs.Views.{Sees}
 use Rattle.tableau_sieve.specs.Stands.{stand_of}
 use Rattle.tableau_sieve.specs.declared.types.Stand.{Stand}
 use Rattle.tableau_sieve.specs.declared.types.Stand.TheVariants.{Done, Dead, First, Second, Open}
-use Rattle.goals.proofs.AskedInstructions.{smaller, met_on, met_back, leads_self, takes_same}
 
 -- what a stand says of the two truths
 abbrev Stood : Bool → Bool → Bool → Stand → Type 0
@@ -50,7 +49,7 @@ clash a false e f = true≢false (sym f ∙ e)
 
 module _ (t : Tree) where
   -- ---- one goal
-  module _ (near : Grid) (g : Goal) (gs : List Goal) (s : Standing t near (g ∷ gs)) (seen : List ℕ) (sees : Sees t near t.count seen) where
+  module _ (near : Grid) (g : Goal) (gs : List Goal) (s : Standing t near (g ∷ gs)) (seen : List Truth) (sees : Sees t near t.count seen) where
     abbrev a : ℕ
     a = first_at t g.at
 
@@ -67,18 +66,18 @@ module _ (t : Tree) where
     rest = record { laid = s.laid; table = s.table; tight = s.tight; waiting = s.waiting.1; enough = omega (arith, s.enough) }
 
     abbrev pub known : Stand
-    known = stand_of g.want (three_by (get_or seen a 0)) (three_by (get_or seen b 0))
+    known = stand_of g.want (three_of (get_or seen a Fails)) (three_of (get_or seen b Fails))
 
-    pub known_as : (want : Bool) (i j : ℕ) (d : Stand) → want ≡ g.want → i ≡ g.at → j ≡ first_at t i → d ≡ stand_of want (three_by (get_or seen j 0)) (three_by (get_or seen (i - 1) 0)) → d ≡ known
-    known_as want i j d e f h k = k ∙ ap (λ m. stand_of want (three_by (get_or seen m 0)) (three_by (get_or seen (i - 1) 0))) (h ∙ ap (first_at t) f) ∙ ap (λ m. stand_of want (three_by (get_or seen a 0)) (three_by (get_or seen (m - 1) 0))) f ∙ ap (λ m. stand_of m (three_by (get_or seen a 0)) (three_by (get_or seen b 0))) e
+    pub known_at : (j : ℕ) (d : Stand) → j ≡ a → d ≡ stand_of g.want (three_of (get_or seen j Fails)) (three_of (get_or seen b Fails)) → d ≡ known
+    known_at j d e is = is ∙ ap (λ m. stand_of g.want (three_of (get_or seen m Fails)) (three_of (get_or seen b Fails))) e
 
     stood : (v : Values → ℕ → Bool) → Describes t v → (x : Values) → Sat (weight near) (suc t.last) x → (d : Stand) → known ≡ d → Stood g.want (v x a) (v x b) d
-    stood v d x h k e = subst (Stood g.want (v x a) (v x b)) e (stand_says g.want (three_by (get_or seen a 0)) (three_by (get_or seen b 0)) (v x a) (v x b) ((sees.each a (omega (arith, less.0, w.in_tree))).so v d x h) ((sees.each b (omega (arith, less.0, w.in_tree))).so v d x h))
+    stood v d x h k e = subst (Stood g.want (v x a) (v x b)) e (stand_says g.want (three_of (get_or seen a Fails)) (three_of (get_or seen b Fails)) (v x a) (v x b) ((sees.each a (omega (arith, less.0, w.in_tree))).so v d x h) ((sees.each b (omega (arith, less.0, w.in_tree))).so v d x h))
 
     -- the goal gone, or one operand in its place
-    pub sift_done : known ≡ Done → Sifts t near (g ∷ gs) false true near gs
+    pub sift_done : known ≡ Done → Sifted t near (g ∷ gs) true near gs
     sift_done e = record {
-      takes = record {
+      leads = record {
         standing = rest;
         less = omega arith;
         old = λ x h. h;
@@ -87,49 +86,54 @@ module _ (t : Tree) where
           λ n. record { at_zero = n.at_zero; sat = n.sat; met = (met_back t s.laid g w v d x (stood v d x n.sat Done e), n.met) },
         );
       };
-      falls = λ c m. omega (arith, less.1);
+      falls = λ m. omega (arith, less.1);
     }
 
-    pub sift_dead : known ≡ Dead → (moved : Bool) (near' : Grid) (gs' : List Goal) → Sifts t near (g ∷ gs) true moved near' gs'
-    sift_dead e moved near' gs' = record {
-      takes = λ v d x n. let o = stood v d x n.sat Dead e in neither v x o (met_on t s.laid g w v d x n.met.0);
-      falls = λ c m. absurd (true≢false c);
-    }
+    pub sift_dead : known ≡ Dead → Shut t near (g ∷ gs)
+    sift_dead e = λ v d x n. let o = stood v d x n.sat Dead e in neither v x o (met_on t s.laid g w v d x n.met.0)
       where
         neither : (v : Values → ℕ → Bool) (x : Values) → (v x a ≡ not g.want) × (v x b ≡ not g.want) → (v x a ≡ g.want) ⊎ (v x b ≡ g.want) → ⊥
         neither v x o (inl e) = clash (v x a) g.want e o.0
         neither v x o (inr e) = clash (v x b) g.want e o.1
 
-    -- an operand that was taken apart in the goal's place
-    demanded : (j : ℕ) → size_at t j < size_at t g.at → ((v : Values → ℕ → Bool) → Describes t v → (x : Values) → Sat (weight near) (suc t.last) x → (v x g.at ≡ g.want → v x j ≡ g.want) × (v x j ≡ g.want → v x g.at ≡ g.want)) → (closed : Bool) (near' : Grid) (gs' : List Goal) → Takes t near (goal j g.want ∷ gs) closed near' gs' → Sifts t near (g ∷ gs) closed true near' gs'
-    demanded j l e closed near' gs' n = record {
-      takes = takes_same t near (g ∷ gs) (goal j g.want ∷ gs) (omega (arith, l)) (λ v d x. (
+    -- an operand that is taken apart in the goal's place
+    module _ (j : ℕ) (l : size_at t j < size_at t g.at) (e : (v : Values → ℕ → Bool) → Describes t v → (x : Values) → Sat (weight near) (suc t.last) x → (v x g.at ≡ g.want → v x j ≡ g.want) × (v x j ≡ g.want → v x g.at ≡ g.want)) where
+      demanded : (answer : Result (Unit {0}) Contradiction) (near' : Grid) (gs' : List Goal) → Takes t near (goal j g.want ∷ gs) answer near' gs' → Takes t near (g ∷ gs) answer near' gs'
+      demanded = takes_same t near (g ∷ gs) (goal j g.want ∷ gs) (omega (arith, l)) (λ v d x. (
         λ n. record { at_zero = n.at_zero; sat = n.sat; met = ((e v d x n.sat).0 n.met.0, n.met.1) },
         λ n. record { at_zero = n.at_zero; sat = n.sat; met = ((e v d x n.sat).1 n.met.0, n.met.1) },
-      )) closed near' gs' n;
-      falls = λ c m. fewer closed c n;
-    }
-      where
-        fewer : (closed : Bool) → closed ≡ false → Takes t near (goal j g.want ∷ gs) closed near' gs' → total t gs' < total t (g ∷ gs)
-        fewer true c n = absurd (true≢false c)
-        fewer false c n = omega (arith, n.less, l)
+      ))
 
-    pub sift_first : known ≡ First → (closed : Bool) (near' : Grid) (gs' : List Goal) → Takes t near (goal a g.want ∷ gs) closed near' gs' → Sifts t near (g ∷ gs) closed true near' gs'
-    sift_first e = demanded a (omega (arith, less.1)) (λ v d x h. (λ m. only v x (stood v d x h First e) (met_on t s.laid g w v d x m), λ m. met_back t s.laid g w v d x (inl m)))
-      where
-        only : (v : Values → ℕ → Bool) (x : Values) → v x b ≡ not g.want → (v x a ≡ g.want) ⊎ (v x b ≡ g.want) → v x a ≡ g.want
-        only v x o (inl e) = e
-        only v x o (inr e) = absurd (clash (v x b) g.want e o)
+      moved_on : (near' : Grid) (gs' : List Goal) → Leads t near (goal j g.want ∷ gs) near' gs' → Sifted t near (g ∷ gs) true near' gs'
+      moved_on near' gs' n = record { leads = demanded (Ok tt) near' gs' n; falls = λ m. omega (arith, n.less, l) }
 
-    pub sift_second : known ≡ Second → (closed : Bool) (near' : Grid) (gs' : List Goal) → Takes t near (goal b g.want ∷ gs) closed near' gs' → Sifts t near (g ∷ gs) closed true near' gs'
-    sift_second e = demanded b (omega (arith, less.1)) (λ v d x h. (λ m. only v x (stood v d x h Second e) (met_on t s.laid g w v d x m), λ m. met_back t s.laid g w v d x (inr m)))
-      where
-        only : (v : Values → ℕ → Bool) (x : Values) → v x a ≡ not g.want → (v x a ≡ g.want) ⊎ (v x b ≡ g.want) → v x b ≡ g.want
-        only v x o (inl e) = absurd (clash (v x a) g.want e o)
-        only v x o (inr e) = e
+    module _ (e : known ≡ First) where
+      one : (v : Values → ℕ → Bool) → Describes t v → (x : Values) → Sat (weight near) (suc t.last) x → (v x g.at ≡ g.want → v x a ≡ g.want) × (v x a ≡ g.want → v x g.at ≡ g.want)
+      one v d x h = (λ m. only (stood v d x h First e) (met_on t s.laid g w v d x m), λ m. met_back t s.laid g w v d x (inl m))
+        where
+          only : v x b ≡ not g.want → (v x a ≡ g.want) ⊎ (v x b ≡ g.want) → v x a ≡ g.want
+          only o (inl e) = e
+          only o (inr e) = absurd (clash (v x b) g.want e o)
 
-    pub sift_open : Sifts t near (g ∷ gs) false false near (g ∷ gs)
-    sift_open = record { takes = leads_self t near (g ∷ gs) s; falls = λ c m. absurd (true≢false (sym m)) }
+      pub sift_first : (near' : Grid) (gs' : List Goal) → Leads t near (goal a g.want ∷ gs) near' gs' → Sifted t near (g ∷ gs) true near' gs'
+      sift_first = moved_on a (omega (arith, less.1)) one
+
+      pub sift_first_shut : (near' : Grid) (gs' : List Goal) (o : Contradiction) → Shut t near (goal a g.want ∷ gs) → Shut t near (g ∷ gs)
+      sift_first_shut near' gs' o = demanded a (omega (arith, less.1)) one (Err o) near' gs'
+
+    module _ (e : known ≡ Second) where
+      other : (v : Values → ℕ → Bool) → Describes t v → (x : Values) → Sat (weight near) (suc t.last) x → (v x g.at ≡ g.want → v x b ≡ g.want) × (v x b ≡ g.want → v x g.at ≡ g.want)
+      other v d x h = (λ m. only (stood v d x h Second e) (met_on t s.laid g w v d x m), λ m. met_back t s.laid g w v d x (inr m))
+        where
+          only : v x a ≡ not g.want → (v x a ≡ g.want) ⊎ (v x b ≡ g.want) → v x b ≡ g.want
+          only o (inl e) = absurd (clash (v x a) g.want e o)
+          only o (inr e) = e
+
+      pub sift_second : (near' : Grid) (gs' : List Goal) → Leads t near (goal b g.want ∷ gs) near' gs' → Sifted t near (g ∷ gs) true near' gs'
+      sift_second = moved_on b (omega (arith, less.1)) other
+
+      pub sift_second_shut : (near' : Grid) (gs' : List Goal) (o : Contradiction) → Shut t near (goal b g.want ∷ gs) → Shut t near (g ∷ gs)
+      sift_second_shut near' gs' o = demanded b (omega (arith, less.1)) other (Err o) near' gs'
 
   -- ---- all of them: those that are left, and those that were kept
   pub record Sifting (near : Grid) (G : List Goal) (near' : Grid) (left kept : List Goal) (moved : Bool) : Type 0 where
@@ -159,12 +163,12 @@ module _ (t : Tree) where
     with_goal : (v : Values → ℕ → Bool) → Describes t v → (x : Values) → Solves t v near G x → Solves t v near' (g ∷ kept) x
     with_goal v d x n = let r = w.on v d x n in record { at_zero = r.0.at_zero; sat = r.0.sat; met = (r.1.0, r.0.met) }
 
-    pub sifting_closed : (m : Bool) (near'' : Grid) (gs' : List Goal) → Sifts t near' (g ∷ kept) true m near'' gs' → (near''' : Grid) (gs'' : List Goal) (k : Bool) → Sifts t near G true k near''' gs''
-    sifting_closed m near'' gs' n near''' gs'' k = record { takes = λ v d x y. n.takes v d x (with_goal v d x y); falls = λ c z. absurd (true≢false c) }
+    pub sifting_shut : Shut t near' (g ∷ kept) → Shut t near G
+    sifting_shut n = λ v d x y. n v d x (with_goal v d x y)
 
-    pub sifting_more : (m : Bool) (near'' : Grid) (gs' : List Goal) → Sifts t near' (g ∷ kept) false m near'' gs' → (after : Bool) → (after ≡ true → (m ≡ true) ⊎ (moved ≡ true)) → Sifting near G near'' left gs' after
+    pub sifting_more : (m : Bool) (near'' : Grid) (gs' : List Goal) → Sifted t near' (g ∷ kept) m near'' gs' → (after : Bool) → (after ≡ true → (m ≡ true) ⊎ (moved ≡ true)) → Sifting near G near'' left gs' after
     sifting_more m near'' gs' n after z =
-        let r = n.takes in
+        let r = n.leads in
         record {
           standing = r.standing;
           waiting = w.waiting.1;
@@ -176,21 +180,15 @@ module _ (t : Tree) where
         }
       where
         lower : (m ≡ true) ⊎ (moved ≡ true) → total t left + total t gs' < total t G
-        lower (inl e) = omega (arith, n.falls refl e, w.fewer)
-        lower (inr e) = omega (arith, n.takes.less, w.falls e)
+        lower (inl e) = omega (arith, n.falls e, w.fewer)
+        lower (inr e) = omega (arith, n.leads.less, w.falls e)
 
-  pub sifting_end : (near : Grid) (G : List Goal) (near' : Grid) (kept : List Goal) (moved : Bool) → Sifting near G near' [] kept moved → Sifts t near G false moved near' kept
+  pub sifting_end : (near : Grid) (G : List Goal) (near' : Grid) (kept : List Goal) (moved : Bool) → Sifting near G near' [] kept moved → Sifted t near G moved near' kept
   sifting_end near G near' kept moved w = record {
-    takes = record { standing = w.standing; less = omega (arith, w.fewer); old = w.old; same = λ v d x. (λ n. (w.on v d x n).0, λ n. w.back v d x n tt) };
-    falls = λ c m. omega (arith, w.falls m);
+    leads = record { standing = w.standing; less = omega (arith, w.fewer); old = w.old; same = λ v d x. (λ n. (w.on v d x n).0, λ n. w.back v d x n tt) };
+    falls = λ m. omega (arith, w.falls m);
   }
 
   -- what was seen under fewer facts
-  pub sees_on : (near near' : Grid) (seen : List ℕ) (n : ℕ) → ((x : Values) → Sat (weight near') (suc t.last) x → Sat (weight near) (suc t.last) x) → Sees t near n seen → Sees t near' n seen
+  pub sees_on : (near near' : Grid) (seen : List Truth) (n : ℕ) → ((x : Values) → Sat (weight near') (suc t.last) x → Sat (weight near) (suc t.last) x) → Sees t near n seen → Sees t near' n seen
   sees_on near near' seen n o w = record { each = λ j l. record { so = λ v d x h. (w.each j l).so v d x (o x h) } }
-
--- a round more only where there is less to do
-pub turn_less : (m moved : Bool) (a b : ℕ) → moved ≡ true → (m ≡ true → a < b) → cond m (suc a) 0 < cond moved (suc b) 0
-turn_less m false a b e f = absurd (true≢false (sym e))
-turn_less true true a b e f = omega (arith, f refl)
-turn_less false true a b e f = omega arith

@@ -1,8 +1,7 @@
 -- What is known of two operands of which one is enough.
-use Rattle.std.specs.Prelude.{Bool, ℕ}
+use Rattle.std.specs.Prelude.{Bool}
 use Rattle.page_formulas.specs.Knowledge.{Three, fails, passes, open?}
 use Rattle.views.specs.Views.{wanted_by}
-use Rattle.tableau_sieve.specs.declared.types.Sifted.{Sifted}
 use Rattle.tableau_sieve.specs.declared.types.Stand.{Stand}
 use Rattle.tableau_sieve.specs.declared.types.Stand.TheVariants.{Done, Dead, First, Second, Open}
 
@@ -18,6 +17,3 @@ stand_by open? open? = Open
 
 abbrev pub stand_of : Bool → Three → Three → Stand
 stand_of want a b = stand_by (wanted_by want a) (wanted_by want b)
-
-abbrev pub sifted : Bool → Bool → ℕ → Sifted
-sifted closed moved count = record { closed = closed; moved = moved; count = count }

@@ -1,77 +1,45 @@
 // The tables' column counts, and the shape that they give.
 ghost use Rattle.std.specs.Prelude.{◌≤◌, ◌<◌, ◌≡◌, [], take};
 ghost use Rattle.page_meaning.specs.Limits.{most_tables, most_columns};
-ghost use Rattle.page_questions.specs.Layout as layout;
+ghost use Rattle.page_questions.specs.Layout.{total};
 ghost use Rattle.page_questions.specs.Reader.{width_at, many};
-ghost use Rattle.tables.specs.Shapes.{MeansWidths, Counted};
 ghost use Rattle.question.specs.Held.{ShapeHeld, widths_of};
+ghost use Rattle.fields.specs.Steps.{Steps};
+ghost use Rattle.refusal.specs.Outcomes.{IfValue};
+ghost use Rattle.tables.specs.Shapes.{Counted};
 
-use fields::fields::{ByteRead, byte_at};
+use fields::cursor::Cursor;
 use limits::{PAST_COLUMNS, TABLES};
-use question::types::{Answer, Shape};
+use question::types::Shape;
+use refusal::{Fault, Refusal};
 
-// Widths, their sum and the next offset, or a refusal.
-#[derive(Clone, Copy)]
-pub struct WidthsRead {
-    pub answer: Answer,
-    pub widths: [usize; TABLES],
-    pub total: usize,
-    pub next: usize,
-}
-
-pub fn widths_at(s: &[u8], n: usize, p: usize) -> WidthsRead
+// The column counts of n tables: a table has a column, and together they have no more than there may be.
+pub fn widths(from: &mut Cursor, n: usize) -> Result<[usize; TABLES], Refusal>
     requires { n ≤ most_tables }
-    ensures { MeansWidths n result (many (width_at most_columns s.now) n [] p) }
+    ensures meaning { Steps (λ ws. take n ws) (λ s p. many (width_at most_columns s) n [] p) from.old result from.new }
+    ensures counted { IfValue result (Counted n) }
 {
-    let mut widths = [0usize; TABLES];
+    let mut widths = [0; TABLES];
     let mut total = 0;
-    let mut next = p;
-    let mut i = 0;
-    while i < n {
-        let b = byte_at(s, 4, 1, PAST_COLUMNS - total, next);
-        match b {
-            ByteRead::Good(w, q) => {
-                let width = w as usize;
-                widths[i] = width;
-                total += width;
-                next = q;
-                i += 1;
-            }
-            ByteRead::Refused(m, at) => {
-                return WidthsRead {
-                    answer: Answer::Refused(m, at),
-                    widths: widths,
-                    total: total,
-                    next: at,
-                };
-            }
-        }
+    for i in 0..n {
+        let width = from.byte(Fault::Code, 1, PAST_COLUMNS - total)? as usize;
+        widths[i] = width;
+        total += width;
     }
-    WidthsRead {
-        answer: Answer::Good,
-        widths: widths,
-        total: total,
-        next: next,
-    }
+    Ok(widths)
 }
 
-// How many columns the tables before table t have.
-fn first_of(widths: [usize; TABLES], n: usize, total: usize, t: usize) -> usize
-    requires counted { Counted n widths total }
-    requires t_le_n { t ≤ n }
-    ensures { result ≡ layout.total (take t widths) }
+// How many columns tables of these widths have.
+fn total(widths: &[usize]) -> usize
+    requires { total widths.now ≤ most_columns }
+    ensures { result ≡ total widths.now }
 {
-    let mut sum = 0;
-    let mut i = 0;
-    while i < t {
-        sum += widths[i];
-        i += 1;
-    }
-    sum
+    widths.iter().sum()
 }
 
-pub fn shape_of(widths: [usize; TABLES], n: usize, total: usize, changed: usize) -> Shape
-    requires counted { Counted n widths total }
+// The shape of n tables of these widths.
+pub fn shape(widths: [usize; TABLES], n: usize, changed: usize) -> Shape
+    requires counted { Counted n widths }
     requires changed_lt_n { changed < n }
     ensures shape_held { ShapeHeld result }
     ensures result_value { widths_of result ≡ take n widths }
@@ -79,10 +47,10 @@ pub fn shape_of(widths: [usize; TABLES], n: usize, total: usize, changed: usize)
 {
     Shape {
         tables: n,
-        changed: changed,
-        widths: widths,
-        first: first_of(widths, n, total, changed),
+        changed,
+        widths,
+        first: total(&widths[..changed]),
         width: widths[changed],
-        total: total,
+        total: total(&widths[..n]),
     }
 }

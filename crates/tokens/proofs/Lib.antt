@@ -1,1 +1,2 @@
+pub mod Parts
 pub mod TokenRun

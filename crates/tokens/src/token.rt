@@ -1,25 +1,27 @@
-// One token of a condition. The columns that it may name are numbered from `low` on and below `high`.
-ghost use Rattle.std.specs.Prelude.{◌≡◌, ◌-◌, ◌<◌};
-ghost use Rattle.page_questions.specs.Reader.{op_of, side_of, right_at, comparison_at, counted, after};
-ghost use Rattle.question.specs.Held as held;
-ghost use Rattle.fields.specs.Bytes.{byte_of};
-ghost use Rattle.tokens.specs.Tokens.{token_meant, sides_at, needs_at, token_numbered, token_with};
+// One token of a condition.
+ghost use Rattle.std.specs.Prelude.{ℕ, ◌≡◌, ◌+◌, ◌<◌, ◌^◌};
+ghost use Rattle.page_questions.specs.Reader as reader;
+ghost use Rattle.page_questions.specs.Reader.{byte, constant_at, comparison_at, counted, after};
+ghost use Rattle.question.specs.Held.{op_of, side_of, kind_of};
+ghost use Rattle.fields.specs.Steps.{Steps, read_of};
+ghost use Rattle.tokens.specs.Tokens.{side_at, needs_at, token_with};
 
-use fields::fields::{ByteRead, NumberRead, byte_at, number_at};
+use fields::cursor::Cursor;
 use limits::COMPARISONS;
 use question::types::{Kind, Op, Side};
+use refusal::{Fault, Refusal};
 
-// A token and the offset after it, or a refusal.
-#[derive(Clone, Copy)]
-pub enum TokenRead {
-    Good(Kind, usize),
-    Refused(u8, usize),
-}
+// FORMAT 2.2: how far a constant may lie from 0.
+const LARGEST: i32 = 2000000000;
 
-fn op_of(o: u8) -> Op
-    ensures { held.op_of result ≡ op_of o }
+// FORMAT 3.3: the byte that stands for no column.
+pub const NO_COLUMN: u8 = 255;
+
+// FORMAT 3.3: the operators by number.
+fn op_of(number: u8) -> Op
+    ensures { op_of result ≡ reader.op_of number }
 {
-    match o {
+    match number {
         1 => Op::Less,
         2 => Op::AtMost,
         3 => Op::Equal,
@@ -29,150 +31,103 @@ fn op_of(o: u8) -> Op
     }
 }
 
-// A right column of 255 is none.
-fn side_of(right: u8, k: i32) -> Side
-    ensures { held.side_of result ≡ side_of right k }
+// The constant of a comparison or a mode.
+pub fn constant(from: &mut Cursor) -> Result<i32, Refusal>
+    ensures { Steps (λ k. k) constant_at from.old result from.new }
 {
-    if right == 255 {
-        Side::Constant(k)
-    } else {
-        Side::Column(right, k)
-    }
+    from.number(Fault::Range, -LARGEST, LARGEST)
 }
 
-// The right column's byte.
-fn right_at(s: &[u8], low: usize, high: usize, p: usize) -> ByteRead
-    ensures { byte_of result ≡ right_at s.now low high p }
-{
-    if s.len() <= p {
-        return ByteRead::Refused(1, p);
-    }
-    if s[p] == 255 {
-        return ByteRead::Good(255, p + 1);
-    }
-    byte_at(s, 7, low, high, p)
+// The columns that may be named: from `low` on and below `high`.
+#[derive(Clone, Copy)]
+pub struct Names {
+    pub low: usize,
+    pub high: usize,
 }
 
-// A comparison's right column and constant, after its operator and left column.
-fn sides_at(s: &[u8], low: usize, high: usize, op: Op, left: u8, p: usize) -> TokenRead
-    ensures { token_meant result ≡ sides_at s.now low high (held.op_of op) left p }
-{
-    let b = right_at(s, low, high, p);
-    match b {
-        ByteRead::Good(right, q) => {
-            let v = number_at(s, 5, -2000000000, 2000000000, q);
-            match v {
-                NumberRead::Good(k, next) => TokenRead::Good(
-                    Kind::Compare(op, left, side_of(right, k)),
-                    next,
-                ),
-                NumberRead::Refused(n, at) => TokenRead::Refused(n, at),
+impl Names {
+    // A column's number.
+    pub fn column(self, from: &mut Cursor) -> Result<u8, Refusal>
+        ensures { Steps (λ i. i) (λ s p. byte s 7 self.low self.high p) from.old result from.new }
+    {
+        from.byte(Fault::Column, self.low, self.high)
+    }
+
+    // A comparison's right side.
+    fn side(self, from: &mut Cursor) -> Result<Side, Refusal>
+        ensures { Steps side_of (λ s p. side_at s self.low self.high p) from.old result from.new }
+    {
+        match from.bytes.get(from.at) {
+            Some(&NO_COLUMN) => {
+                from.at += 1;
+                Ok(Side::Constant(constant(from)?))
+            }
+            _ => {
+                let column = self.column(from)?;
+                Ok(Side::Column(column, constant(from)?))
             }
         }
-        ByteRead::Refused(n, at) => TokenRead::Refused(n, at),
+    }
+
+    // A comparison after its token byte.
+    fn comparison(self, from: &mut Cursor) -> Result<Kind, Refusal>
+        ensures { Steps kind_of (λ s p. comparison_at s self.low self.high p) from.old result from.new }
+    {
+        let op = op_of(from.byte(Fault::Token, 1, 7)?);
+        let left = self.column(from)?;
+        let right = self.side(from)?;
+        Ok(Kind::Compare(op, left, right))
     }
 }
 
-// A comparison after its token byte.
-fn comparison_at(s: &[u8], low: usize, high: usize, p: usize) -> TokenRead
-    ensures { token_meant result ≡ comparison_at s.now low high p }
-{
-    let b = byte_at(s, 6, 1, 7, p);
-    match b {
-        ByteRead::Good(o, q) => {
-            let l = byte_at(s, 7, low, high, q);
-            match l {
-                ByteRead::Good(left, next) => sides_at(s, low, high, op_of(o), left, next),
-                ByteRead::Refused(n, at) => TokenRead::Refused(n, at),
-            }
+// What the tokens so far come to: how many comparisons there were, and how many truths stand.
+#[derive(Clone, Copy)]
+pub(crate) struct SoFar {
+    pub compared: usize,
+    pub height: usize,
+}
+
+impl SoFar {
+    // With one token more.
+    pub(crate) fn with(self, kind: Kind) -> SoFar
+        requires compared_fits { self.compared + 1 < 2 ^ 64 }
+        requires height_fits { self.height + 1 < 2 ^ 64 }
+        ensures compared { result.compared ≡ counted self.compared (kind_of kind) }
+        ensures height { result.height ≡ after self.height (kind_of kind) }
+    {
+        match kind {
+            Kind::Compare(..) => SoFar {
+                compared: self.compared + 1,
+                height: self.height + 1,
+            },
+            Kind::Both | Kind::Either => SoFar {
+                height: self.height.saturating_sub(1),
+                ..self
+            },
+            Kind::Negate => self,
         }
-        ByteRead::Refused(n, at) => TokenRead::Refused(n, at),
     }
-}
 
-// A token that stands for an operation on the last values, if there are so many.
-fn operation(kind: Kind, wants: usize, height: usize, p: usize, q: usize) -> TokenRead
-    ensures { token_meant result ≡ needs_at (held.kind_of kind) wants height p q }
-{
-    if wants <= height {
-        TokenRead::Good(kind, q)
-    } else {
-        TokenRead::Refused(6, p)
-    }
-}
-
-// The token of number t at p, whose byte ends before q, after `compared` comparisons and with `height` values.
-fn numbered_at(
-    s: &[u8],
-    low: usize,
-    high: usize,
-    compared: usize,
-    height: usize,
-    t: u8,
-    p: usize,
-    q: usize,
-) -> TokenRead
-    ensures { token_meant result ≡ token_numbered s.now low high compared height t p q }
-{
-    match t {
-        1 => {
-            if compared < COMPARISONS {
-                comparison_at(s, low, high, q)
-            } else {
-                TokenRead::Refused(4, p)
-            }
+    // A token that takes so many truths, if they stand.
+    fn takes(self, wants: usize, kind: Kind, place: usize) -> Result<Kind, Refusal>
+        ensures { (q : ℕ) → read_of kind_of result q ≡ needs_at (kind_of kind) wants self.height place q }
+    {
+        if self.height < wants {
+            return Err(Fault::Token.at(place));
         }
-        2 => operation(Kind::Both, 2, height, p, q),
-        3 => operation(Kind::Either, 2, height, p, q),
-        _ => operation(Kind::Negate, 1, height, p, q),
+        Ok(kind)
     }
 }
 
-pub fn token_at(
-    s: &[u8],
-    low: usize,
-    high: usize,
-    compared: usize,
-    height: usize,
-    p: usize,
-) -> TokenRead
-    ensures { token_meant result ≡ token_with s.now low high compared height p }
+pub(crate) fn token(from: &mut Cursor, names: Names, so_far: SoFar) -> Result<Kind, Refusal>
+    ensures { Steps kind_of (λ s p. token_with s names.low names.high so_far.compared so_far.height p) from.old result from.new }
 {
-    let b = byte_at(s, 6, 1, 5, p);
-    match b {
-        ByteRead::Good(t, q) => numbered_at(s, low, high, compared, height, t, p, q),
-        ByteRead::Refused(n, at) => TokenRead::Refused(n, at),
+    let place = from.at;
+    match from.byte(Fault::Token, 1, 5)? {
+        1 if so_far.compared < COMPARISONS => names.comparison(from),
+        1 => Err(Fault::Code.at(place)),
+        2 => so_far.takes(2, Kind::Both, place),
+        3 => so_far.takes(2, Kind::Either, place),
+        _ => so_far.takes(1, Kind::Negate, place),
     }
-}
-
-// One comparison more, if the token is one.
-pub fn compared_after(compared: usize, kind: Kind) -> usize
-    requires { compared < 100 }
-    ensures { result ≡ counted compared (held.kind_of kind) }
-{
-    match kind {
-        Kind::Compare(_, _, _) => compared + 1,
-        Kind::Both => compared,
-        Kind::Either => compared,
-        Kind::Negate => compared,
-    }
-}
-
-// How many values stand after the token.
-pub fn height_after(height: usize, kind: Kind) -> usize
-    requires { height < 100 }
-    ensures { result ≡ after height (held.kind_of kind) }
-{
-    match kind {
-        Kind::Compare(_, _, _) => height + 1,
-        Kind::Both => less_one(height),
-        Kind::Either => less_one(height),
-        Kind::Negate => height,
-    }
-}
-
-fn less_one(n: usize) -> usize
-    ensures { result ≡ n - 1 }
-{
-    if n == 0 { 0 } else { n - 1 }
 }

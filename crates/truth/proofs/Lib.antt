@@ -1,2 +1,2 @@
-pub mod Runs
 pub mod Cells
+pub mod Runs

@@ -1,1 +1,1 @@
-pub mod Cells
+pub mod Values

@@ -1,3 +1,5 @@
+// What the places decided so far say of a formula: Kleene's three values (FORMAT 7.1).
 #![tactic(auto)]
 
+mod stack;
 pub mod truths;

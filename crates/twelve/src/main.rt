@@ -5,92 +5,96 @@ mod list;
 mod shown;
 
 use list::{change, change_in};
-use printing::text;
+use question::types::{Verb, Version};
 use shown::show;
 use std::io;
-
-const INSERT: u8 = 1;
-
-const DELETE: u8 = 2;
-
-const MODIFY: u8 = 3;
 
 fn inserts(rt: &impl Print) -> io::Result<()> {
     change(
         rt,
-        b"a  insert (3,9)",
-        INSERT,
+        "a  insert (3,9)",
+        Verb::Insert,
         b"\x01\x03\x00\x00\x00\x09\x00\x00\x00",
     )?;
-    b(rt, b"b  insert (3,10)")?;
-    change(rt, b"c  insert no row", INSERT, b"\x00")
+    b(rt, "b  insert (3,10)")?;
+    change(rt, "c  insert no row", Verb::Insert, b"\x00")
 }
 
 fn deletes(rt: &impl Print) -> io::Result<()> {
     change(
         rt,
-        b"d  delete V < 10",
-        DELETE,
+        "d  delete V < 10",
+        Verb::Delete,
         b"\x01\x01\x01\x01\xff\x0a\x00\x00\x00",
     )?;
     change(
         rt,
-        b"e  delete V <= 10",
-        DELETE,
+        "e  delete V <= 10",
+        Verb::Delete,
         b"\x01\x01\x02\x01\xff\x0a\x00\x00\x00",
     )?;
     change(
         rt,
-        b"f  delete K = 4",
-        DELETE,
+        "f  delete K = 4",
+        Verb::Delete,
         b"\x01\x01\x03\x00\xff\x04\x00\x00\x00",
     )?;
-    g(rt, b"g  delete V >= 5")
+    g(rt, "g  delete V >= 5")
 }
 
 // K is kept: \x00\xff\x00\x00\x00\x00.
 fn modifies(rt: &impl Print) -> io::Result<()> {
     change(
         rt,
-        b"h  V := V + 5 where V >= 10",
-        MODIFY,
+        "h  V := V + 5 where V >= 10",
+        Verb::Modify,
         b"\x01\x01\x04\x01\xff\x0a\x00\x00\x00\x00\xff\x00\x00\x00\x00\x02\x01\x05\x00\x00\x00",
     )?;
     change(
         rt,
-        b"i  V := V + 5 where V >= 5",
-        MODIFY,
+        "i  V := V + 5 where V >= 5",
+        Verb::Modify,
         b"\x01\x01\x04\x01\xff\x05\x00\x00\x00\x00\xff\x00\x00\x00\x00\x02\x01\x05\x00\x00\x00",
     )?;
     change(
         rt,
-        b"j  V := V - 8 where V >= 10",
-        MODIFY,
+        "j  V := V - 8 where V >= 10",
+        Verb::Modify,
         b"\x01\x01\x04\x01\xff\x0a\x00\x00\x00\x00\xff\x00\x00\x00\x00\x02\x01\xf8\xff\xff\xff",
     )?;
-    k(rt, b"k  V := V - 40 where V >= 10", 1)?;
+    k(rt, "k  V := V - 40 where V >= 10", Version::One)?;
     change(
         rt,
-        b"l  V := 7 where V >= 10",
-        MODIFY,
+        "l  V := 7 where V >= 10",
+        Verb::Modify,
         b"\x01\x01\x04\x01\xff\x0a\x00\x00\x00\x00\xff\x00\x00\x00\x00\x01\xff\x07\x00\x00\x00",
     )
 }
 
-fn b(rt: &impl Print, label: &[u8]) -> io::Result<()> {
-    change(rt, label, INSERT, b"\x01\x03\x00\x00\x00\x0a\x00\x00\x00")
+fn b(rt: &impl Print, label: &str) -> io::Result<()> {
+    change(
+        rt,
+        label,
+        Verb::Insert,
+        b"\x01\x03\x00\x00\x00\x0a\x00\x00\x00",
+    )
 }
 
-fn g(rt: &impl Print, label: &[u8]) -> io::Result<()> {
-    change(rt, label, DELETE, b"\x01\x01\x04\x01\xff\x05\x00\x00\x00")
+fn g(rt: &impl Print, label: &str) -> io::Result<()> {
+    change(
+        rt,
+        label,
+        Verb::Delete,
+        b"\x01\x01\x04\x01\xff\x05\x00\x00\x00",
+    )
 }
 
-fn k(rt: &impl Print, label: &[u8], version: u8) -> io::Result<()> {
+fn k(rt: &impl Print, label: &str, version: Version) -> io::Result<()> {
     change_in(
         rt,
         label,
         version,
-        MODIFY,
+        Verb::Modify,
         b"\x01\x01\x04\x01\xff\x0a\x00\x00\x00\x00\xff\x00\x00\x00\x00\x02\x01\xd8\xff\xff\xff",
     )
 }
@@ -99,7 +103,7 @@ fn k(rt: &impl Print, label: &[u8], version: u8) -> io::Result<()> {
 fn properties(rt: &impl Print) -> io::Result<()> {
     show(
         rt,
-        b"1  KEY alone, K shown, C: V >= 10; K := 5 where K = 3 or (K = 5 and V >= 20)",
+        "1  KEY alone, K shown, C: V >= 10; K := 5 where K = 3 or (K = 5 and V >= 20)",
         2,
         b"\x56\x55\x51\x01\x00\x01\x03\x00\x02\
           \x00\x00\x00\x00\x09\x00\x00\x00\x01\
@@ -115,7 +119,7 @@ fn properties(rt: &impl Print) -> io::Result<()> {
 fn negation(rt: &impl Print) -> io::Result<()> {
     show(
         rt,
-        b"4  C: K = Q and not (V <= 9); delete V <= 9",
+        "4  C: K = Q and not (V <= 9); delete V <= 9",
         4,
         b"\x56\x55\x51\x01\x00\x02\x02\x00\x02\x02\
           \x00\x00\x00\x00\x09\x00\x00\x00\x01\
@@ -129,29 +133,29 @@ fn negation(rt: &impl Print) -> io::Result<()> {
 
 // What a shortcut would get wrong.
 fn shortcuts(rt: &impl Print) -> io::Result<()> {
-    text(rt, b"shortcuts that are wrong\n")?;
+    rt.println("shortcuts that are wrong")?;
     properties(rt)?;
-    g(rt, b"2  g again: computable, and V is hidden")?;
-    k(rt, b"3  k again: new values are tested", 1)?;
+    g(rt, "2  g again: computable, and V is hidden")?;
+    k(rt, "3  k again: new values are tested", Version::One)?;
     change(
         rt,
-        b"3  delete V > 30: ranges are facts",
-        DELETE,
+        "3  delete V > 30: ranges are facts",
+        Verb::Delete,
         b"\x01\x01\x05\x01\xff\x1e\x00\x00\x00",
     )?;
     negation(rt)?;
-    b(rt, b"5  b again: CLIENT has (9,3), and KEY has no row yet")
+    b(rt, "5  b again: CLIENT has (9,3), and KEY has no row yet")
 }
 
 fn main(rt: HostRuntime) -> io::Result<()> {
     inserts(&rt)?;
     deletes(&rt)?;
     modifies(&rt)?;
-    text(&rt, b"in version 2\n")?;
+    rt.println("in version 2")?;
     k(
         &rt,
-        b"k  V := V - 40 where V >= 10: every listed row goes",
-        2,
+        "k  V := V - 40 where V >= 10: every listed row goes",
+        Version::Two,
     )?;
     shortcuts(&rt)
 }

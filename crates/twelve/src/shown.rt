@@ -1,74 +1,45 @@
 // A question's two answers.
-use outcome::{Verdict, Written};
-use printing::{line_end, numbers, text, words};
+use outcome::{Sheet, Verdict};
+use printing::numbers::{row, rows};
+use question::types::Asked;
 use std::io;
 
-// The rows of a no sheet: after mark, version, asked, verdict and the formula's number, four bytes a value; one row or two.
-fn rows(rt: &impl Print, sheet: &[u8], columns: u8) -> io::Result<()> {
-    let first = 8;
-    let second = first + 4 * (columns as usize);
-    if second <= sheet.len() {
-        text(rt, b": ")?;
-        numbers::row(rt, &sheet[first..second])?;
-        if second < sheet.len() {
-            text(rt, b" with ")?;
-            numbers::row(rt, &sheet[second..])?;
+// The rows of a no sheet: one row or two.
+fn show_rows(rt: &impl Print, sheet: &[u8], columns: usize) -> io::Result<()> {
+    if let Some((first, second)) = rows(sheet, columns) {
+        rt.print(": ")?;
+        row(rt, first)?;
+        if !second.is_empty() {
+            rt.print(" with ")?;
+            row(rt, second)?;
         }
     }
     Ok(())
 }
 
 // A sheet's line: what was asked, the verdict, the length, and the rows that show a no.
-fn sheet(
+fn line(
     rt: &impl Print,
-    asked: u8,
-    verdict: Verdict,
+    asked: Asked,
+    sheet: Sheet,
     bytes: &[u8],
-    columns: u8,
+    columns: usize,
 ) -> io::Result<()> {
-    text(rt, b"   ")?;
-    words::answer(rt, asked, verdict, bytes.len())?;
-    match verdict {
-        Verdict::Yes => {}
-        Verdict::No => rows(rt, bytes, columns)?,
+    print!(rt; "   {asked} {sheet}")?;
+    if sheet.verdict == Verdict::No {
+        show_rows(rt, bytes, columns)?;
     }
-    line_end(rt)
+    rt.println("")
 }
 
-// The sheet at the start of the room.
-fn sheet_in(
-    rt: &impl Print,
-    asked: u8,
-    verdict: Verdict,
-    room: &[u8],
-    length: usize,
-    columns: u8,
-) -> io::Result<()> {
-    let start = 0;
-    if length <= room.len() {
-        sheet(rt, asked, verdict, &room[start..length], columns)?;
+pub fn show(rt: &impl Print, label: &str, columns: usize, question: &[u8]) -> io::Result<()> {
+    rt.println(label)?;
+    let mut room = [0u8; 4096];
+    for asked in [Asked::Irrelevant, Asked::Computable] {
+        match answers::write(asked.number(), question, &mut room) {
+            Ok(sheet) => line(rt, asked, sheet, &room[..sheet.length], columns)?,
+            Err(refusal) => println!(rt; "refused {refusal}")?,
+        }
     }
     Ok(())
-}
-
-fn answer(
-    rt: &impl Print,
-    asked: u8,
-    question: &[u8],
-    columns: u8,
-    room: &mut [u8],
-) -> io::Result<()> {
-    let written = answers::write(asked, question, room);
-    match written {
-        Written::Good(verdict, length) => sheet_in(rt, asked, verdict, room, length, columns),
-        Written::Refused(number, place) => words::refused(rt, number, place),
-    }
-}
-
-pub fn show(rt: &impl Print, label: &[u8], columns: u8, question: &[u8]) -> io::Result<()> {
-    text(rt, label)?;
-    line_end(rt)?;
-    let mut room = [0u8; 4096];
-    answer(rt, 1, question, columns, &mut room)?;
-    answer(rt, 2, question, columns, &mut room)
 }

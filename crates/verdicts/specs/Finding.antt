@@ -1,5 +1,5 @@
 -- What is found of a question's formulas.
-use Rattle.std.specs.Prelude.{ℕ, ◌≡◌, true, false}
+use Rattle.std.specs.Prelude.{ℕ, ◌≡◌, Option, Some, None}
 use Rattle.page_meaning.specs.Contents.{Question}
 use Rattle.page_formulas.specs.Formulas.{formulas}
 use Rattle.page_sheets.specs.Trees.{Finding, all_shut, first_open}
@@ -8,10 +8,13 @@ use Rattle.goals.specs.Goals.{held, TrueAt}
 use Rattle.verdicts.specs.declared.openings.Found.{Found}
 
 -- no formula is open; or the first one's number
-abbrev pub Finds : Finding → Found → Type 0
-Finds (all_shut ts) r = r.open ≡ false
-Finds (first_open i F x) r = (r.open ≡ true) × (r.number ≡ i)
+abbrev pub Finds : Finding → Option Found → Type 0
+Finds (all_shut ts) None = Unit {0}
+Finds (all_shut ts) (Some r) = ⊥
+Finds (first_open i F x) None = ⊥
+Finds (first_open i F x) (Some r) = r.number ≡ i
 
 -- the values show it
-abbrev pub Shown : Question → ℕ → Found → Type 0
-Shown q asked r = r.open ≡ true → TrueAt (formula_at (formulas q asked) r.number) (held r.values)
+abbrev pub Shown : Question → ℕ → Option Found → Type 0
+Shown q asked None = Unit {0}
+Shown q asked (Some r) = TrueAt (formula_at (formulas q asked) r.number) (held r.values)

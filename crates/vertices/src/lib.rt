@@ -1,75 +1,55 @@
 // The vertices of a formula and what they range over.
 #![tactic(auto)]
 
-ghost use Rattle.std.specs.Prelude.{◌≡◌, not, ◌&&◌, ◌+◌, ◌≤◌, length};
+ghost use Rattle.std.specs.Prelude.{◌≡◌, not, ◌&&◌, ◌≤◌, length};
 ghost use Rattle.page_meaning.specs.Limits.{most_columns};
-ghost use Rattle.program.specs.Compiled.{Spans};
-ghost use Rattle.vertices.specs.Rows.{row_ranges, ranges_by, vertices_of, Widen, Widens};
+ghost use Rattle.question.specs.Held.{column_of};
+ghost use Rattle.program.specs.Meanings.{entry_of};
+ghost use Rattle.program.specs.Compiled.{Spans, range_if};
+ghost use Rattle.vertices.specs.Rows.{row_ranges, ranges_by, Widen, Widens};
 
 use ints::weights::wide;
-use limits::{COLUMNS, VERTICES};
-use program::types::Vertices;
+use limits::VERTICES;
+use program::types::{Range, Vertices};
 use question::types::Column;
 
-// A visible column has no vertex of the second row.
-pub fn there(second: bool, visible: bool) -> bool
-    ensures { result ≡ not (second && visible) }
+// What a column's vertex ranges over; a visible column has no vertex of the second row.
+fn entry(second: bool, c: &Column) -> Option<Range>
+    ensures { entry_of result ≡ range_if (not (second && c.now.visible)) (column_of c.now).range }
 {
-    if second {
-        return !visible;
+    if second && c.visible {
+        return None;
     }
-    true
+    Some(Range {
+        lo: wide(c.lo),
+        hi: wide(c.hi),
+    })
 }
 
-// The next vertices, one for each of the first n columns.
-pub fn row(
-    present: &mut [bool; VERTICES],
-    lo: &mut [i64; VERTICES],
-    hi: &mut [i64; VERTICES],
-    at: usize,
-    columns: [Column; COLUMNS],
-    n: usize,
-    second: bool,
-) -> usize
-    requires { Widen (vertices_of present.old lo.old hi.old at) n × (n ≤ most_columns) × (length columns ≡ most_columns) }
-    ensures { Widens (vertices_of present.old lo.old hi.old at) (vertices_of present.new lo.new hi.new result) n (row_ranges second columns n) }
+// The next vertices, one for each column.
+fn row(into: &mut Vertices, columns: &[Column], second: bool)
+    requires { Widen into.old (length columns.now) }
+    ensures { Widens into.old into.new (length columns.now) (row_ranges second columns.now) }
 {
-    let mut next = at;
-    let mut i = 0;
-    while i < n {
-        let c = columns[i];
-        present[next] = there(second, c.visible);
-        lo[next] = wide(c.lo);
-        hi[next] = wide(c.hi);
-        next += 1;
-        i += 1;
+    for c in columns {
+        into.ranges[into.count] = entry(second, c);
+        into.count += 1;
     }
-    next
 }
 
 // FORMAT 5.4: zero, the first row's, and where there are two rows the second's.
-pub fn vertices(columns: [Column; COLUMNS], n: usize, pairs: bool) -> Vertices
-    requires { (n ≤ most_columns) × (length columns ≡ most_columns) }
-    ensures { Spans result (ranges_by pairs columns n) }
+pub fn vertices(columns: &[Column], pairs: bool) -> Vertices
+    requires { length columns.now ≤ most_columns }
+    ensures { Spans result (ranges_by pairs columns.now) }
 {
-    let mut present = [false; VERTICES];
-    present[0] = true;
-    let mut lo = [0i64; VERTICES];
-    let mut hi = [0i64; VERTICES];
-    let one = row(&mut present, &mut lo, &mut hi, 1, columns, n, false);
+    let mut all = Vertices {
+        count: 1,
+        ranges: [None; VERTICES],
+    };
+    all.ranges[0] = Some(Range { lo: 0, hi: 0 });
+    row(&mut all, columns, false);
     if pairs {
-        let two = row(&mut present, &mut lo, &mut hi, one, columns, n, true);
-        return Vertices {
-            count: two,
-            present,
-            lo,
-            hi,
-        };
+        row(&mut all, columns, true);
     }
-    Vertices {
-        count: one,
-        present,
-        lo,
-        hi,
-    }
+    all
 }

@@ -1,44 +1,28 @@
 -- What the facts say of an instruction is so at all values that meet them.
-use Prim.Native.Nat.{ℕ, zero, suc, ◌+◌, ◌-◌, ◌≤◌, ◌<◌}
-use mathlib.Core.Path.{◌≡◌, refl, sym, ap, ◌∙◌}
-use mathlib.Core.Bool.{Bool, true, false, cond}
-use mathlib.Core.List.{List}
-use native.Mathlib.Omega.{arith}
+use Rattle.std.proofs.Common.{ℕ, suc, ◌+◌, ◌-◌, ◌<◌, ◌≡◌, refl, Bool, true, false, List, length, get_or, pos, arith}
+use Rattle.std.specs.Prelude.{cond, ◌+ℤ◌}
+use Rattle.std.specs.Int.Signed.{le_z, lt_z, ◌≤ℤ◌}
 use native.Mathlib.Decide.{ℕ_discrete}
-use lib.ListN.{length, get_or, set}
+use lib.ListN.{set}
 use lib.Seq.{get_or-set_same, get_or-set_other}
-use lib.IntN.{ℤ, pos, ◌+ℤ◌}
-use lib.Signed.{◌≤ℤ◌, le_z, lt_z}
 use Rattle.page_numbers.proofs.Bridge.{ints, +law}
 use Rattle.page_numbers.proofs.Machine.{le_true, lt_true, true_le, false_le}
 use Rattle.page_walks.specs.Grid.{Grid, weight}
 use Rattle.page_walks.specs.Walk.{Sat}
 use Rattle.page_formulas.specs.Program.{Values, Place, test}
-use Rattle.page_formulas.specs.Knowledge.{Three, fails, passes, open?, not3}
+use Rattle.page_formulas.specs.Knowledge.{fails, passes, open?, and3, or3, not3}
 use Rattle.page_formulas.specs.Truths.{Says}
 use Rattle.page_formulas.proofs.Truths.{says_and, says_or, says_not}
-use Rattle.truth.specs.Cells.{joined_by}
-use Rattle.page_formulas.specs.Postfix.{says}
-use Rattle.program_tree.specs.Nodes.{Tree, Placed, kind_at, first_at, place_in, LaidRows}
-use Rattle.views.specs.Views.{three_by, seen_place, seen_constant, Tells, Sees}
-use Rattle.page_formulas.proofs.Cases.{joint_case, constant_case}
+use Rattle.truth.specs.Values.{three_of}
+use Rattle.truth.specs.declared.truths.Truth.{Truth}
+use Rattle.truth.specs.declared.truths.Truth.TheVariants.{Fails}
+use Rattle.program_tree.specs.declared.types.Tree.{Tree}
+use Rattle.program_tree.specs.Nodes.{Placed, kind_at, first_at, place_in, LaidRows, Describes}
+use Rattle.views.specs.Views.{seen_place, Seen, Sees}
 
--- ---- a place: as the code tests it, and what that says
+-- ---- a place
 
 module _ (near : Grid) (q : Place) where
-  pub seen_passes : (a b : ℤ) → a ≡ weight near q.right q.left → b ≡ q.most → le_z a b ≡ true → passes ≡ seen_place near q
-  seen_passes a b d e h = rw (sym (ap (λ z. le_z z q.most) d) ∙ sym (ap (le_z a) e) ∙ h)
-
-  module _ (a b : ℤ) (d : a ≡ weight near q.right q.left) (e : b ≡ q.most) (h : le_z a b ≡ false) (c : ℤ) (f : c ≡ weight near q.left q.right +ℤ q.most) where
-    no_more : le_z (weight near q.right q.left) q.most ≡ false
-    no_more = sym (ap (λ z. le_z z q.most) d) ∙ sym (ap (le_z a) e) ∙ h
-
-    pub seen_fails : lt_z c (pos 0) ≡ true → fails ≡ seen_place near q
-    seen_fails g = rw (no_more, sym (ap (λ z. lt_z z (pos 0)) f) ∙ g)
-
-    pub seen_open : lt_z c (pos 0) ≡ false → open? ≡ seen_place near q
-    seen_open g = rw (no_more, sym (ap (λ z. lt_z z (pos 0)) f) ∙ g)
-
   says_place : (last : ℕ) → Placed last q → (x : Values) → Sat (weight near) (suc last) x → Says (seen_place near q) (test x q)
   unfolding Sat
   says_place last p x s = go (le_z (weight near q.right q.left) q.most) refl (lt_z (weight near q.left q.right +ℤ q.most) (pos 0)) refl
@@ -56,56 +40,43 @@ module _ (near : Grid) (q : Place) where
 
 -- ---- the other kinds
 
-pub constant_other : (k : ℕ) → ¬ (k ≡ 4) → fails ≡ seen_constant k
-constant_other zero f = refl
-constant_other (suc zero) f = refl
-constant_other (suc (suc zero)) f = refl
-constant_other (suc (suc (suc zero))) f = refl
-constant_other (suc (suc (suc (suc zero)))) f = absurd (f refl)
-constant_other (suc (suc (suc (suc (suc k))))) f = refl
-
-says_constant : (k : ℕ) → 4 ≤ k → (t a b : Bool) → Says (seen_constant k) (says k t a b)
-says_constant = constant_case (λ k. (t a b : Bool) → Says (seen_constant k) (says k t a b)) (λ t a b. refl) (λ k t a b. refl)
-
-says_joined : (k : ℕ) → 0 < k → k < 3 → (t a b : Bool) (p q : Three) → Says p a → Says q b → Says (joined_by k p q) (says k t a b)
-says_joined = joint_case (λ k. (t a b : Bool) (p q : Three) → Says p a → Says q b → Says (joined_by k p q) (says k t a b)) (λ t a b p q. says_and p q a b) (λ t a b p q. says_or p q a b)
-
--- what has operands isn't the first
-pub after_some : (t : Tree) → LaidRows t → (i : ℕ) → i < t.count → 0 < kind_at t i → kind_at t i < 4 → 1 ≤ i
-after_some t laid i h l m = go (ℕ_discrete (kind_at t i) 3)
-  where
-    go : Dec (kind_at t i ≡ 3) → 1 ≤ i
-    go (yes e) = omega (arith, ((laid.made i h).one e).0)
-    go (no e) = omega (arith, ((laid.made i h).two l (omega arith)).0)
-
 module _ (t : Tree) (laid : LaidRows t) (near : Grid) where
-  pub sees_start : (seen : List ℕ) → Sees t near 0 seen
+  pub sees_start : (seen : List Truth) → Sees t near 0 seen
   sees_start seen = record { each = λ j h. absurd (omega arith) }
 
   -- one instruction more
-  pub sees_more : (i : ℕ) (seen : List ℕ) → Sees t near i seen → i < length seen → (r : ℕ) → Tells t near i r → Sees t near (i + 1) (set seen i r)
+  pub sees_more : (i : ℕ) (seen : List Truth) → Sees t near i seen → i < length seen → (r : Truth) → Seen t near i r → Sees t near (i + 1) (set seen i r)
   sees_more i seen w long r f = record { each = λ j l. go j l (ℕ_discrete j i) }
     where
-      go : (j : ℕ) → j < i + 1 → Dec (j ≡ i) → Tells t near j (get_or (set seen i r) j 0)
-      go j l (yes e) = rw (e, get_or-set_same seen i r 0 long) f
-      go j l (no e) = rw (get_or-set_other seen i j r 0 e) (w.each j (omega arith))
+      go : (j : ℕ) → j < i + 1 → Dec (j ≡ i) → Seen t near j (get_or (set seen i r) j Fails)
+      go j l (yes e) = rw (e, get_or-set_same seen i r Fails long) f
+      go j l (no e) = rw (get_or-set_other seen i j r Fails e) (w.each j (omega arith))
 
-  module _ (i : ℕ) (seen : List ℕ) (w : Sees t near i seen) (h : i < t.count) (r : ℕ) where
+  module _ (i : ℕ) (seen : List Truth) (w : Sees t near i seen) (h : i < t.count) (r : Truth) where
     abbrev k : ℕ
     k = kind_at t i
 
-    pub shows_place : k ≡ 0 → three_by r ≡ seen_place near (place_in t i) → Tells t near i r
+    abbrev first : Truth
+    first = get_or seen (first_at t i) Fails
+
+    abbrev last : Truth
+    last = get_or seen (i - 1) Fails
+
+    pub shows_place : k ≡ 0 → three_of r ≡ seen_place near (place_in t i) → Seen t near i r
     shows_place e a = record { so = λ v d x s. rw (a, d.told x i h, e) (says_place near (place_in t i) t.last ((laid.made i h).place e) x s) }
 
-    pub shows_constant : 4 ≤ k → three_by r ≡ seen_constant k → Tells t near i r
-    shows_constant l a = record { so = λ v d x s. rw (a, d.told x i h) (says_constant k l (test x (place_in t i)) (v x (first_at t i)) (v x (i - 1))) }
+    pub shows_not : k ≡ 3 → three_of r ≡ not3 (three_of last) → Seen t near i r
+    shows_not e a = record { so = λ v d x s. rw (a, d.told x i h, e) (says_not (three_of last) (v x (i - 1)) ((w.each (i - 1) (omega (arith, ((laid.made i h).one e).0))).so v d x s)) }
 
-    pub shows_not : k ≡ 3 → three_by r ≡ not3 (three_by (get_or seen (i - 1) 0)) → Tells t near i r
-    shows_not e a = record { so = λ v d x s. rw (a, d.told x i h, e) (says_not (three_by (get_or seen (i - 1) 0)) (v x (i - 1)) ((w.each (i - 1) (omega (arith, ((laid.made i h).one e).0))).so v d x s)) }
+    module _ (l : 0 < k) (m : k < 3) (v : Values → ℕ → Bool) (d : Describes t v) (x : Values) (s : Sat (weight near) (suc t.last) x) where
+      first_so : Says (three_of first) (v x (first_at t i))
+      first_so = (w.each (first_at t i) (omega (arith, ((laid.made i h).two l m).0))).so v d x s
 
-    pub shows_joined : 0 < k → k < 3 → three_by r ≡ joined_by k (three_by (get_or seen (first_at t i) 0)) (three_by (get_or seen (i - 1) 0)) → Tells t near i r
-    shows_joined l m a = record {
-      so = λ v d x s.
-          let o = ((laid.made i h).two l m).0 in
-          rw (a, d.told x i h) (says_joined k l m (test x (place_in t i)) (v x (first_at t i)) (v x (i - 1)) (three_by (get_or seen (first_at t i) 0)) (three_by (get_or seen (i - 1) 0)) ((w.each (first_at t i) (omega (arith, o))).so v d x s) ((w.each (i - 1) (omega (arith, o))).so v d x s));
-    }
+      last_so : Says (three_of last) (v x (i - 1))
+      last_so = (w.each (i - 1) (omega (arith, ((laid.made i h).two l m).0))).so v d x s
+
+    pub shows_and : k ≡ 1 → three_of r ≡ and3 (three_of first) (three_of last) → Seen t near i r
+    shows_and e a = let l : 0 < k = omega (arith, e) in let m : k < 3 = omega (arith, e) in record { so = λ v d x s. rw (a, d.told x i h, e) (says_and (three_of first) (three_of last) (v x (first_at t i)) (v x (i - 1)) (first_so l m v d x s) (last_so l m v d x s)) }
+
+    pub shows_or : k ≡ 2 → three_of r ≡ or3 (three_of first) (three_of last) → Seen t near i r
+    shows_or e a = let l : 0 < k = omega (arith, e) in let m : k < 3 = omega (arith, e) in record { so = λ v d x s. rw (a, d.told x i h, e) (says_or (three_of first) (three_of last) (v x (first_at t i)) (v x (i - 1)) (first_so l m v d x s) (last_so l m v d x s)) }

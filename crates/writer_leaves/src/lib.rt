@@ -3,143 +3,80 @@
 #![tactic(auto)]
 
 ghost use Rattle.std.specs.Prelude.{◌≡◌, suc, ◌<◌, T};
-ghost use Rattle.truth.specs.Cells.{three_of};
 ghost use Rattle.page_formulas.specs.Formulas as written;
 ghost use Rattle.page_formulas.specs.Program.{Program, Values};
 ghost use Rattle.page_formulas.specs.ProperFormulas.{Proper};
 ghost use Rattle.page_formulas.specs.Vertices.{present};
-ghost use Rattle.program.specs.Compiled.{Compiled, formula_of};
+ghost use Rattle.program.specs.Compiled.{Compiled};
 ghost use Rattle.page_sheets.specs.Growth.{grow_tree, open_at};
 ghost use Rattle.page_sheets.specs.Sheet.{last_vertex};
-ghost use Rattle.program_tree.specs.Nodes.{tree_of, Tells};
-ghost use Rattle.writer_leaves.specs.Leaves.{passing, Tries, Triable, Opening, Descendable, Leaf, FineOpen};
+ghost use Rattle.program_tree.specs.Nodes.{Tells};
+ghost use Rattle.writer_leaves.specs.Leaves.{Tries, Triable, Opening, Descendable, Leaf, FineOpen};
 
 use closure::relax_in;
-use grid::edge;
-use ints::weights::negation;
-use limits::{INSTRUCTIONS, PLACES, VERTICES};
-use program::types::Outline;
-use program_tree::nodes::lay;
-use program_tree::types::{Extent, ROW};
+use facts::added;
+use goals::entering::contradicts;
+use grid::{Edge, Grid};
+use limits::VERTICES;
+use program::types::{Formula, Instruction, Place};
+use program_tree::types::Tree;
 use spreads::begin;
 use tableau::openings::opens_under;
-use truth::truths::Truth;
-use writer_trees::trees::{Edge, known_so_far};
+use truth::truths::{Truth, known};
+use writer_trees::types::Truths;
 
-// Is the formula known to be true?
-fn passes(t: Truth) -> bool
-    ensures { result ≡ passing (three_of t) }
+// The closure with one fact more, where the formula is open under it.
+fn opens_with(tree: &Tree, near: &Grid, e: Edge) -> Option<Grid>
+    requires { Triable tree.now near.now.rows e }
+    ensures { (p : Program) → Tells tree.now p → Tries result p tree.now.last near.now.rows e }
 {
-    match t {
-        Truth::Fails => false,
-        Truth::Passes => true,
-        Truth::Open => false,
+    if contradicts(near, tree.last, e) {
+        return None;
     }
-}
-
-// Is the formula open with one more fact? If so, it is one of the facts now.
-fn opens_with(
-    nodes: &[[u16; ROW]; INSTRUCTIONS],
-    weights: &[i64; INSTRUCTIONS],
-    ext: Extent,
-    near: &mut [[i64; VERTICES]; VERTICES],
-    e: Edge,
-) -> bool
-    requires { Triable (tree_of nodes.now weights.now ext) near.old e.from e.to e.weight }
-    ensures { (p : Program) → Tells (tree_of nodes.now weights.now ext) p → Tries result p ext.last near.old e.from e.to e.weight near.new }
-{
-    let round = edge(near, e.to, e.from);
-    if round + e.weight < 0 {
-        return false;
-    }
-    relax_in(near, ext.last + 1, e.from, e.to, e.weight);
-    let mut facts = *near;
-    let r = opens_under(nodes, weights, ext, &mut facts);
-    r.open
+    let mut closer = *near;
+    relax_in(&mut closer, tree.last + 1, e);
+    opens_under(tree, closer)?;
+    Some(closer)
 }
 
 // The leaf's values, from the closure of the facts at the root.
 fn descend(
-    kinds: &[u8],
-    left: &[u8],
-    right: &[u8],
-    most: &[i64],
-    nodes: &[[u16; ROW]; INSTRUCTIONS],
-    weights: &[i64; INSTRUCTIONS],
-    ext: Extent,
-    root: [[i64; VERTICES]; VERTICES],
+    instructions: &[Instruction],
+    places: &[Place],
+    tree: &Tree,
+    root: &Grid,
 ) -> [i64; VERTICES]
-    requires { Descendable kinds.now left.now right.now most.now (tree_of nodes.now weights.now ext) root }
-    ensures { (F : written.Formula) (x : Values) → Opening kinds.now left.now right.now most.now (tree_of nodes.now weights.now ext) root F x → Leaf (λ v. v < suc ext.last) x result }
+    requires { Descendable instructions.now places.now tree.now root.now.rows }
+    ensures { (F : written.Formula) (x : Values) → Opening instructions.now places.now tree.now root.now.rows F x → Leaf (λ v. v < suc tree.now.last) x result }
 {
-    let mut near = root;
-    let mut truths = [0u8; PLACES];
-    let mut i: usize = 0;
-    while i < most.len() {
-        let k = known_so_far(kinds, truths, i);
-        if passes(k) {
-            return near[0];
+    let mut near = *root;
+    let mut truths = Truths::new();
+    for place in places {
+        if known(instructions, truths.so_far()) == Truth::Passes {
+            return near.rows[0];
         }
-        let to = left[i] as usize;
-        let from = right[i] as usize;
-        let weight = most[i];
-        let fact = Edge { from, to, weight };
-        let mut tried = near;
-        let open = opens_with(nodes, weights, ext, &mut tried, fact);
-        if open {
-            near = tried;
-            truths[i] = 1;
-            i += 1;
-            continue;
+        match opens_with(tree, &near, added(*place, true)) {
+            Some(closer) => {
+                near = closer;
+                truths = truths.with(true);
+            }
+            None => {
+                let e = added(*place, false);
+                relax_in(&mut near, tree.last + 1, e);
+                truths = truths.with(false);
+            }
         }
-        relax_in(&mut near, ext.last + 1, to, from, negation(weight));
-        truths[i] = 0;
-        i += 1;
     }
-    near[0]
+    near.rows[0]
 }
 
-// The same of a compiled formula. Its arrays are made slices, of which a part can be lent on.
-pub fn first_leaf<'a>(
-    kinds: &'a [u8; INSTRUCTIONS],
-    left: &'a [u8; PLACES],
-    right: &'a [u8; PLACES],
-    most: &'a [i64; PLACES],
-    o: Outline,
-) -> [i64; VERTICES]
-    requires { FineOpen (formula_of kinds.now left.now right.now most.now o) }
-    ensures { (F : written.Formula) (x : Values) → Compiled (formula_of kinds.now left.now right.now most.now o) F → Proper F → grow_tree last_vertex F ≡ open_at x → Leaf (λ v. T (present F.ranges v)) x result }
+// The same of a compiled formula.
+pub fn first_leaf(f: &Formula) -> [i64; VERTICES]
+    requires { FineOpen f.now }
+    ensures { (F : written.Formula) (x : Values) → Compiled f.now F → Proper F → grow_tree last_vertex F ≡ open_at x → Leaf (λ v. T (present F.ranges v)) x result }
 {
-    let count = o.vertices.count;
-    let mut near = [[0i64; VERTICES]; VERTICES];
-    begin(
-        &mut near,
-        count,
-        &o.vertices.present,
-        &o.vertices.lo,
-        &o.vertices.hi,
-    );
-    let n = o.count;
-    let few = o.places;
-    let mut nodes = [[0u16; ROW]; INSTRUCTIONS];
-    let mut weights = [0i64; INSTRUCTIONS];
-    lay(kinds, left, right, most, n, &mut nodes, &mut weights);
-    let ext = Extent {
-        count: n,
-        last: count - 1,
-    };
-    let ks: &[u8] = kinds;
-    let ls: &[u8] = left;
-    let rs: &[u8] = right;
-    let ms: &[i64] = most;
-    descend(
-        &ks[..n],
-        &ls[..few],
-        &rs[..few],
-        &ms[..few],
-        &nodes,
-        &weights,
-        ext,
-        near,
-    )
+    let mut near = Grid::blank();
+    begin(&mut near, &f.vertices);
+    let tree = Tree::plant(&f.program, f.vertices.count - 1);
+    descend(f.program.instructions(), f.program.places(), &tree, &near)
 }

@@ -5,7 +5,7 @@ use mathlib.Core.Bool.{Bool, true, false, cond}
 use mathlib.Core.List.{[], ◌∷◌, ◌++◌, append_assoc}
 use native.Mathlib.Numerals.{add-one}
 use native.Mathlib.Omega.{arith}
-use lib.IntN.{pos}
+use lib.IntN.{ℤ, pos}
 use lib.ListN.{length, get_or, take, drop, length-append, length-drop, drop_of_length-le}
 use lib.Seq.{drop-cons, length-take-le}
 use mir.Syntax.{w32}
@@ -74,9 +74,9 @@ row_length q i s true x = tabulate_length (width (question_of q)) (λ j. x (seco
 
 -- ---- bytes
 
-pub row_next : (f : Filling) (row : Values) (c : ℕ) → c < length row → puts f (bytes_of_row (drop c row)) ≡ puts (puts f (bytes4 (of_z w32 (look row c)))) (bytes_of_row (drop (c + 1) row))
+pub row_next : (f g : Filling) (row : Values) (c : ℕ) (z : ℤ) → c < length row → z ≡ look row c → g ≡ puts f (bytes4 (of_z w32 z)) → puts g (bytes_of_row (drop (c + 1) row)) ≡ puts f (bytes_of_row (drop c row))
 unfolding bytes_of_row
-row_next f row c h = rw (add-one, drop-cons row c (pos 0) h) (puts_append f (bytes4 (of_z w32 (look row c))) (bytes_of_row (drop (suc c) row)))
+row_next f g row c z h e k = rw (k, e, add-one, drop-cons row c (pos 0) h) (sym (puts_append f (bytes4 (of_z w32 (look row c))) (bytes_of_row (drop (suc c) row))))
 
 pub row_end : (f : Filling) (row : Values) (c : ℕ) → length row ≤ c → puts f (bytes_of_row (drop c row)) ≡ f
 unfolding bytes_of_row puts
@@ -87,16 +87,14 @@ unfolding bytes_of_row
 bytes_append [] v = refl
 bytes_append (z ∷ u) v = ap (λ l. bytes4 (of_z w32 z) ++ l) (bytes_append u v) ∙ sym (append_assoc (bytes4 (of_z w32 z)) (bytes_of_row u) (bytes_of_row v))
 
-module _ (f : Filling) (q : Question) (i : ℕ) (x : P.Values) (pairs : Bool) where
-  rows_split : (u v : Values) → puts (puts f (bytes_of_row u)) (bytes_of_row v) ≡ puts f (bytes_of_row (u ++ v))
-  rows_split u v = sym (ap (puts f) (bytes_append u v) ∙ puts_append f (bytes_of_row u) (bytes_of_row v))
+-- the second row, where there are two
+abbrev pub rest_for : Question → Bool → P.Values → Values
+rest_for q pairs x = cond pairs (row_of2 q x) []
 
-  pub rows_two : pairs ≡ true → puts (puts f (bytes_of_row (first_row q i x))) (bytes_of_row (row_of2 q x)) ≡ puts f (bytes_of_row (rows_for q i pairs x))
-  rows_two e = rw e (rows_split (first_row q i x) (row_of2 q x))
-
-  pub rows_one : pairs ≡ false → puts f (bytes_of_row (first_row q i x)) ≡ puts f (bytes_of_row (rows_for q i pairs x))
-  unfolding bytes_of_row puts
-  rows_one e = rw e (rows_split (first_row q i x) [])
+pub rows_split : (f : Filling) (q : Question) (i : ℕ) (pairs : Bool) (x : P.Values) → puts (puts f (bytes_of_row (first_row q i x))) (bytes_of_row (rest_for q pairs x)) ≡ puts f (bytes_of_row (rows_for q i pairs x))
+rows_split f q i pairs x = let u = first_row q i x in
+    let v = rest_for q pairs x in
+    sym (ap (puts f) (bytes_append u v) ∙ puts_append f (bytes_of_row u) (bytes_of_row v))
 
 -- ---- rows of values that agree
 

@@ -1,37 +1,32 @@
--- A sheet put from the start of the room, by its parts; and that an open formula can be shown.
+-- A sheet by its parts, its header and what follows; and that an open formula can be shown.
 use Prim.Native.Nat.{ℕ, ◌≤◌, ◌<◌}
 use mathlib.Core.Path.{◌≡◌, sym, ap, ◌∙◌}
 use mathlib.Core.Bool.{Bool, true, false, cond}
 use mathlib.Core.List.{List, [], ◌∷◌, ◌++◌}
 use native.Mathlib.Omega.{arith}
-use lib.Dec.{T, eqb}
+use lib.Dec.{eqb}
 use lib.ListN.{length, get_or, length-map}
+use Rattle.std.specs.Prelude.{Result, IsErr}
 use Rattle.page_meaning.specs.Contents.{Version, version1, version2, Table, Change, insert, delete, modify, Question}
-use Rattle.page_meaning.specs.Contents as M
 use Rattle.page_meaning.specs.Claims.{modification, unless_alone}
 use Rattle.page_meaning.specs.Limits.{most_rows}
 use Rattle.page_questions.specs.Guarantees.{Accepted, ChangeAccepted}
 use Rattle.page_formulas.specs.Formulas.{Formula, irrelevance, computability, formulas, no_formula}
-use Rattle.page_formulas.specs.Program.{Values}
-use Rattle.page_formulas.specs.ProperFormulas.{Proper}
-use Rattle.page_formulas.specs.Vertices.{present}
 use Rattle.program.specs.Compiled.{Compiled}
-use Rattle.program.specs.Formulas as compiled
+use Rattle.program.specs.declared.types.Formula as compiled
 use Rattle.formula.specs.Formulas.{formula_at}
 use Rattle.formula.proofs.ProperFormulas.{proper_at}
 use Rattle.page_sheets.specs.Growth.{open_at, grow_tree}
-use Rattle.page_sheets.specs.Rows.{no_bytes, Rowed}
-use Rattle.page_sheets.specs.Sheet.{last_vertex, header, say_yes, say_no, sheet_for, finding_under, finding_of, sheet_under, sheet_of}
-use Rattle.page_sheets.specs.Tree.{Tree}
-use Rattle.page_sheets.specs.Trees.{all_shut, bytes_all}
+use Rattle.page_sheets.specs.Rows.{no_bytes}
+use Rattle.page_sheets.specs.Sheet.{last_vertex, Verdict, header, say_yes, say_no, sheet_for, finding_under, sheet_under, sheet_of}
+use Rattle.page_sheets.specs.Trees.{bytes_all}
 use Rattle.page_sheets.proofs.Positions.{open_there}
-use Rattle.room.specs.Room.{filling, puts}
-use Rattle.room.specs.declared.Spot.{Spot}
-use Rattle.room.proofs.PutBytes.{puts_append}
-use Rattle.writer_rows.specs.Rows.{Carries}
-use Rattle.page_sheets.proofs.AlikeRows.{rows_there}
-use Rattle.writer_leaves.specs.Leaves.{FineOpen, Leaf}
-use Rattle.writer_sheets.specs.Starts.{at_start, AllShut, OpenFirst}
+use Rattle.room.specs.Room.{Filling, filling, stopped, puts}
+use Rattle.room.specs.declared.Sink.{Sink}
+use Rattle.room.specs.declared.Full.{Full}
+use Rattle.room.proofs.PutBytes.{puts_append, stops}
+use Rattle.writer_leaves.specs.Leaves.{FineOpen}
+use Rattle.writer_sheets.specs.Starts.{AllShut, OpenFirst}
 
 -- ---- how many formulas there are: their numbers are bytes
 module _ (q : Question) where
@@ -52,7 +47,7 @@ module _ (q : Question) where
       four version2 = omega arith
   few (modify d ms) h false = omega arith
 
-module _ (q : Question) (ok : Accepted q) (a : ℕ) where
+module _ (q : Question) (a : ℕ) where
   -- ---- the first open formula
   module _ (i : ℕ) (o : OpenFirst q a i) where
     there : (i < length (formulas q a)) × (get_or (formulas q a) i no_formula ≡ o.formula) × (grow_tree last_vertex o.formula ≡ open_at o.values)
@@ -62,30 +57,30 @@ module _ (q : Question) (ok : Accepted q) (a : ℕ) where
     pub number_there : i < length (formulas q a)
     number_there = there.0
 
-    pub number_byte : i < 256
-    number_byte = omega (arith, number_there, few q q.change ok.change (eqb a 1))
+    pub number_byte : Accepted q → i < 256
+    number_byte ok = omega (arith, number_there, few q q.change ok.change (eqb a 1))
+
+    pub opens : grow_tree last_vertex (formula_at (formulas q a) i) ≡ open_at o.values
+    opens = rw there.1 there.2
 
     -- it is open, as the code compiles it
-    pub fine_open : (f : compiled.Formula) → Compiled f (formula_at (formulas q a) i) → FineOpen f
-    fine_open f is = record { formula = formula_at (formulas q a) i; is = is; proper = proper_at q ok a i number_there; values = o.values; opens = rw there.1 there.2 }
+    pub fine_open : Accepted q → (f : compiled.Formula) → Compiled f (formula_at (formulas q a) i) → FineOpen f
+    fine_open ok f is = record { formula = formula_at (formulas q a) i; is = is; proper = proper_at q ok a i number_there; values = o.values; opens = opens }
 
-    -- ---- a no sheet: its header, and the rows of the leaf
-    pub sheet_no : (f : compiled.Formula) → Compiled f (formula_at (formulas q a) i) → (values : M.Values)
-        → ((F : Formula) (x : Values) → Compiled f F → Proper F → grow_tree last_vertex F ≡ open_at x → Leaf (λ v. T (present F.ranges v)) x values)
-        → (old mid new : List ℕ) (s₁ s : Spot) → filling mid s₁ ≡ puts (filling old at_start) (header a say_no)
-        → ((F : Formula) (x : Values) → F.pairs ≡ f.pairs → Rowed q F → Carries F.ranges values x → filling new s ≡ puts (filling mid s₁) (no_bytes q i F x))
-        → filling new s ≡ puts (filling old at_start) (sheet_of q a)
-    unfolding sheet_under fine_open
-    sheet_no f is values leaf old mid new s₁ s h w =
-        let F = formula_at (formulas q a) i in
-        let x = o.values in
-        let fine = fine_open f is in
-        let e : sheet_for q a (finding_of q a) ≡ header a say_no ++ no_bytes q i F x = ap (sheet_for q a) o.finding ∙ ap (λ G. header a say_no ++ no_bytes q i G x) (sym there.1) in
-        w F x (sym is.pairs) (rows_there q a i no_formula number_there) (leaf F x is fine.proper fine.opens) ∙ ap (λ g. puts g (no_bytes q i F x)) h ∙ sym (puts_append (filling old at_start) (header a say_no) (no_bytes q i F x)) ∙ ap (puts (filling old at_start)) (sym e)
+    -- a no sheet: its header, and the rows of the leaf
+    pub no_parts : sheet_of q a ≡ header a say_no ++ no_bytes q i (formula_at (formulas q a) i) o.values
+    unfolding sheet_under
+    no_parts = ap (sheet_for q a) o.finding ∙ ap (λ G. header a say_no ++ no_bytes q i G o.values) (sym there.1)
 
-  -- ---- a yes sheet: its header, and every tree
-  pub sheet_yes : AllShut q a → (old mid new : List ℕ) (s₁ s : Spot) → filling mid s₁ ≡ puts (filling old at_start) (header a say_yes)
-      → ((ts : List Tree) → finding_of q a ≡ all_shut ts → filling new s ≡ puts (filling mid s₁) (bytes_all ts))
-      → filling new s ≡ puts (filling old at_start) (sheet_of q a)
+  -- a yes sheet: its header, and every tree
+  pub yes_parts : (s : AllShut q a) → sheet_of q a ≡ header a say_yes ++ bytes_all s.0
   unfolding sheet_under
-  sheet_yes (ts, e) old mid new s₁ s h w = w ts e ∙ ap (λ g. puts g (bytes_all ts)) h ∙ sym (puts_append (filling old at_start) (header a say_yes) (bytes_all ts)) ∙ ap (puts (filling old at_start)) (sym (ap (sheet_for q a) e))
+  yes_parts s = ap (sheet_for q a) s.1
+
+  -- ---- a sheet put by its parts
+  module _ (v : Verdict) (rest : List ℕ) (parts : sheet_of q a ≡ header a v ++ rest) (f : Filling) where
+    pub header_over : {A : Type 0} (t : Sink) (r : Result A Full) → IsErr r → stopped t ≡ puts f (header a v) → filling t r ≡ puts f (sheet_of q a)
+    header_over t r i h = stops t r (puts f (header a v)) rest i h ∙ sym (puts_append f (header a v) rest) ∙ ap (puts f) (sym parts)
+
+    pub header_then : (g h : Filling) → g ≡ puts f (header a v) → h ≡ puts g rest → h ≡ puts f (sheet_of q a)
+    header_then g h e r = r ∙ ap (λ x. puts x rest) e ∙ sym (puts_append f (header a v) rest) ∙ ap (puts f) (sym parts)

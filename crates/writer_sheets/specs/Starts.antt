@@ -1,16 +1,11 @@
--- Where a sheet starts in the room, and which sheet a question gets.
-use Rattle.std.specs.Prelude.{ℕ, ◌≡◌, false, List}
+-- Which sheet a question gets.
+use Rattle.std.specs.Prelude.{ℕ, ◌≡◌, List}
 use Rattle.page_meaning.specs.Contents.{Question}
 use Rattle.page_formulas.specs.Formulas.{Formula}
 use Rattle.page_formulas.specs.Program.{Values}
 use Rattle.page_sheets.specs.Sheet.{finding_of}
 use Rattle.page_sheets.specs.Tree.{Tree}
 use Rattle.page_sheets.specs.Trees.{all_shut, first_open}
-use Rattle.room.specs.declared.Spot.{Spot}
-
--- the start of a room
-abbrev pub at_start : Spot
-at_start = record { at = 0; over = false }
 
 -- every formula is shut
 abbrev pub AllShut : Question → ℕ → Type 0

@@ -1,90 +1,76 @@
-// Both kinds of sheet, from the start of the room on, as far as they fit.
+// Both kinds of sheet, as far as they fit.
 #![tactic(auto)]
 
-ghost use Rattle.std.specs.Prelude.{◌≡◌, List, [], ◌∷◌, ◌<◌, length};
-ghost use Rattle.question.specs.Held.{Held, question_of};
+ghost use Rattle.std.specs.Prelude.{◌≡◌, ◌<◌, List, [], ◌∷◌, length};
+ghost use Rattle.question.specs.Held.{Held, question_of, asked_of};
 ghost use Rattle.page_questions.specs.Guarantees.{Accepted};
 ghost use Rattle.page_formulas.specs.Formulas.{formulas};
 ghost use Rattle.formula.specs.Formulas.{formula_at};
+ghost use Rattle.outcome.specs.Answers.{verdict_of};
 ghost use Rattle.page_sheets.specs.Growth.{grow_tree};
-ghost use Rattle.page_sheets.specs.Sheet.{last_vertex, finding_of, sheet_of};
-ghost use Rattle.writer_trees.specs.Trees.{Grows};
+ghost use Rattle.page_sheets.specs.Sheet.{last_vertex, header, finding_of, sheet_of};
 ghost use Rattle.page_sheets.specs.Tree.{Tree};
 ghost use Rattle.page_sheets.specs.Trees.{all_shut, bytes_all};
-ghost use Rattle.room.specs.Room.{filling, puts};
-ghost use Rattle.writer_sheets.specs.Starts.{at_start, AllShut, OpenFirst};
+ghost use Rattle.room.specs.Room.{begun, filling, puts};
+ghost use Rattle.writer_trees.specs.Trees.{Grows};
+ghost use Rattle.writer_sheets.specs.Starts.{AllShut, OpenFirst};
 
 use formula::formulas::{formula_count, outline};
-use limits::{INSTRUCTIONS, PLACES};
-use question::types::Question;
-use room::{Spot, put_all};
+use outcome::Verdict;
+use question::types::{Asked, Question};
+use room::{Full, Sink};
+use sights::terms::whole;
 use writer_leaves::first_leaf;
 use writer_rows::rows::put_refutation;
 use writer_trees::trees::plant_formula;
 
-// Mark, version, asked, verdict, from the start.
-fn put_header(room: &mut [u8], asked: u8, verdict: u8) -> Spot
-    ensures { filling room.new result ≡ puts (filling room.old at_start) (86 ∷ 85 ∷ 83 ∷ 1 ∷ 0 ∷ asked ∷ verdict ∷ []) }
+// Mark, version, asked, verdict.
+fn put_header(sink: &mut Sink, asked: Asked, verdict: Verdict) -> Result<(), Full>
+    ensures same_reference { sink.new.room.ghost_name ≡ sink.old.room.ghost_name }
+    ensures filled { filling sink.new result ≡ puts (begun sink.old) (header (asked_of asked) (verdict_of verdict)) }
 {
-    let head = [86u8, 85, 83, 1, 0, asked, verdict];
-    put_all(room, Spot { at: 0, over: false }, &head)
+    sink.put_all(&[b'V', b'U', b'S', 1, 0, asked.number(), verdict.byte()])
 }
 
 // Formula i's tree.
-fn put_tree(room: &mut [u8], spot: Spot, q: Question, asked: u8, i: usize) -> Spot
-    requires { Held q × Accepted (question_of q) × (i < length (formulas (question_of q) asked)) }
-    ensures { Grows room.old spot (grow_tree last_vertex (formula_at (formulas (question_of q) asked) i)) room.new result }
+fn put_tree(sink: &mut Sink, q: &Question, asked: Asked, i: usize) -> Result<(), Full>
+    requires { Held q.now × Accepted (question_of q.now) × (i < length (formulas (question_of q.now) (asked_of asked))) }
+    ensures same_reference { sink.new.room.ghost_name ≡ sink.old.room.ghost_name }
+    ensures grows { Grows (begun sink.old) (grow_tree last_vertex (formula_at (formulas (question_of q.now) (asked_of asked)) i)) (filling sink.new result) }
 {
-    let mut kinds = [0u8; INSTRUCTIONS];
-    let mut left = [0u8; PLACES];
-    let mut right = [0u8; PLACES];
-    let mut most = [0i64; PLACES];
-    let o = outline(&mut kinds, &mut left, &mut right, &mut most, q, asked, i);
-    plant_formula(room, spot, &kinds, &left, &right, &most, o)
+    plant_formula(sink, &outline(q, asked, i))
 }
 
-// Every formula's tree, one after another. Every tree is shut, so a byte that found no room ends the work.
-fn put_trees(room: &mut [u8], spot: Spot, q: Question, asked: u8) -> Spot
-    requires { Held q × Accepted (question_of q) × AllShut (question_of q) asked }
-    ensures { (ts : List Tree) → finding_of (question_of q) asked ≡ all_shut ts → filling room.new result ≡ puts (filling room.old spot) (bytes_all ts) }
+// Every formula's tree, one after another.
+fn put_trees(sink: &mut Sink, q: &Question, asked: Asked) -> Result<(), Full>
+    requires { Held q.now × Accepted (question_of q.now) × AllShut (question_of q.now) (asked_of asked) }
+    ensures same_reference { sink.new.room.ghost_name ≡ sink.old.room.ghost_name }
+    ensures filled { (ts : List Tree) → finding_of (question_of q.now) (asked_of asked) ≡ all_shut ts → filling sink.new result ≡ puts (begun sink.old) (bytes_all ts) }
 {
-    let n = formula_count(q, asked);
-    let mut next = spot;
-    let mut i: usize = 0;
-    while i < n {
-        let over = next.over;
-        if over {
-            return next;
-        }
-        next = put_tree(room, next, q, asked, i);
-        i += 1;
+    for i in 0..formula_count(q, asked) {
+        put_tree(sink, q, asked, i)?;
     }
-    next
+    Ok(())
 }
 
 // Where no formula is open.
-pub fn put_yes(room: &mut [u8], q: Question, asked: u8) -> Spot
-    requires { Held q × Accepted (question_of q) × AllShut (question_of q) asked }
-    ensures { filling room.new result ≡ puts (filling room.old at_start) (sheet_of (question_of q) asked) }
+pub fn put_yes(sink: &mut Sink, q: &Question, asked: Asked) -> Result<(), Full>
+    requires { Held q.now × Accepted (question_of q.now) × AllShut (question_of q.now) (asked_of asked) }
+    ensures same_reference { sink.new.room.ghost_name ≡ sink.old.room.ghost_name }
+    ensures filled { filling sink.new result ≡ puts (begun sink.old) (sheet_of (question_of q.now) (asked_of asked)) }
 {
-    let start = put_header(room, asked, 0);
-    put_trees(room, start, q, asked)
+    put_header(sink, asked, Verdict::Yes)?;
+    put_trees(sink, q, asked)
 }
 
 // Where this formula is the first that is open: the rows of its first open leaf.
-pub fn put_no(room: &mut [u8], q: Question, asked: u8, number: usize) -> Spot
-    requires { Held q × Accepted (question_of q) × OpenFirst (question_of q) asked number }
-    ensures { filling room.new result ≡ puts (filling room.old at_start) (sheet_of (question_of q) asked) }
+pub fn put_no(sink: &mut Sink, q: &Question, asked: Asked, number: usize) -> Result<(), Full>
+    requires { Held q.now × Accepted (question_of q.now) × OpenFirst (question_of q.now) (asked_of asked) number }
+    ensures same_reference { sink.new.room.ghost_name ≡ sink.old.room.ghost_name }
+    ensures filled { filling sink.new result ≡ puts (begun sink.old) (sheet_of (question_of q.now) (asked_of asked)) }
 {
-    let start = put_header(room, asked, 1);
-    let mut kinds = [0u8; INSTRUCTIONS];
-    let mut left = [0u8; PLACES];
-    let mut right = [0u8; PLACES];
-    let mut most = [0i64; PLACES];
-    let o = outline(
-        &mut kinds, &mut left, &mut right, &mut most, q, asked, number,
-    );
-    let pairs = o.pairs;
-    let values = first_leaf(&kinds, &left, &right, &most, o);
-    put_refutation(room, start, q, number as u8, pairs, values)
+    whole(q);
+    put_header(sink, asked, Verdict::No)?;
+    let f = outline(q, asked, number);
+    put_refutation(sink, q, number as u8, f.pairs, &first_leaf(&f))
 }

@@ -1,4 +1,4 @@
-// A formula's tree, by the writer's rule.
 #![tactic(auto)]
 
 pub mod trees;
+pub mod types;

@@ -1,20 +1,18 @@
-use mathlib.Core.Path.{sym, ap, ◌∙◌}
+use mathlib.Core.Path.{ap, ◌∙◌}
+use Rattle.std.proofs.lemmas.Result.{err_from_is_err_and}
 use Rattle.page_meaning.specs.Limits.{limits}
-use Rattle.question.specs.declared.types.Answer.TheVariants.{Good, Refused}
+use Rattle.page_sheets.specs.Sheet.{check_sheet}
 use Rattle.page_sheets.specs.Answers.{check_for, check_under}
-use Rattle.asking.proofs.Readings.{asked_means, asked_holds}
+use Rattle.question.specs.Held.{question_of}
 use Rattle.answers.proofs.check.Goals as goal
 
-pub from_mark-requires : goal.from_mark-requires
-from_mark-requires c = let a = c.args in
-    asked_holds a.asked a.question.now c.ask-r.result c.ask-r.ensures c.in-Good.is
-
-pub returns-in-Good : goal.returns-in-Good
+pub returns-in_err-asked : goal.returns-in_err-asked
 unfolding check_under
-returns-in-Good c = let a = c.args in
-    c.from_mark.ensures ∙ sym (ap (check_for limits a.asked a.sheet.now) (asked_means a.asked a.question.now c.ask-r.result c.ask-r.ensures Good c.in-Good.is))
+returns-in_err-asked c =
+    let p = err_from_is_err_and c.from_residual.result c.from_residual.ensures.1 in
+    rw (p.1, p.2) (ap (check_for limits c.args.asked c.args.sheet.now) c.in_err-asked.ensures.meaning)
 
-pub returns-in-Refused : goal.returns-in-Refused
+pub returns : goal.returns
 unfolding check_under
-returns-in-Refused c = let a = c.args in
-    sym (ap (check_for limits a.asked a.sheet.now) (asked_means a.asked a.question.now c.ask-r.result c.ask-r.ensures (Refused _ _) c.in-Refused.is))
+returns c = let q = question_of c.in_ok-asked.question in let r = c.in_ok-asked.ensures in
+    c.from_mark.ensures ∙ ap (λ n. check_sheet q n c.args.sheet.now) r.asked ∙ ap (check_for limits c.args.asked c.args.sheet.now) r.meaning

@@ -1,15 +1,19 @@
-use Rattle.asking.proofs.Readings.{asked_holds}
-use Rattle.answers.proofs.Readings.{verdict_good, verdict_refused}
+use mathlib.Core.Path.{ap, ◌∙◌}
+use Rattle.std.proofs.lemmas.Result.{err_from_is_err_and}
+use Rattle.page_numbers.specs.Outcome.{good}
+use Rattle.page_meaning.specs.Limits.{limits}
+use Rattle.page_sheets.specs.Sheet.{verdict_for, finding_of}
+use Rattle.page_sheets.specs.Answers.{judge, verdict_under}
+use Rattle.question.specs.Held.{question_of}
 use Rattle.answers.proofs.verdict.Goals as goal
 
-pub judge-requires : goal.judge-requires
-judge-requires c = let a = c.args in
-    asked_holds a.asked a.question.now c.ask-r.result c.ask-r.ensures c.in-Good.is
+pub returns-in_err-asked : goal.returns-in_err-asked
+unfolding verdict_under
+returns-in_err-asked c =
+    let p = err_from_is_err_and c.from_residual.result c.from_residual.ensures.1 in
+    rw (p.1, p.2) (ap (judge limits c.args.asked) c.in_err-asked.ensures.meaning)
 
-pub returns-in-Good : goal.returns-in-Good
-returns-in-Good c = let a = c.args in
-    verdict_good a.asked a.question.now c.ask-r.result c.ask-r.ensures c.in-Good.is _ c.judge.ensures
-
-pub returns-in-Refused : goal.returns-in-Refused
-returns-in-Refused c = let a = c.args in
-    verdict_refused a.asked a.question.now c.ask-r.result c.ask-r.ensures _ _ c.in-Refused.is
+pub returns : goal.returns
+unfolding verdict_under
+returns c = let q = question_of c.in_ok-asked.question in let r = c.in_ok-asked.ensures in
+    ap good (c.judge.ensures ∙ ap (λ n. verdict_for (finding_of q n)) r.asked) ∙ ap (judge limits c.args.asked) r.meaning

@@ -1,52 +1,34 @@
-use Prim.Native.Nat.{◌<◌}
-use mathlib.Core.Path.{sym}
-use native.Mathlib.Omega.{arith}
-use lib.ListN.{length, get_or}
+use Rattle.question.proofs.Guaranteed.{accepted_of}
+use Rattle.std.proofs.Common.{◌<◌, length, get_or, arith}
 use borrow.Author.Tests.{le-leb, lt-leb, lt-ltb, le-ltb}
-use Rattle.question.specs.Held.{question_of}
 use Rattle.page_formulas.specs.Formulas.{formulas}
-use Rattle.formula.specs.Formulas.{formula_at}
 use Rattle.page_sheets.specs.Sheet.{check_no}
+use Rattle.question.specs.Held.{question_of, asked_of}
+use Rattle.formula.specs.Formulas.{formula_at}
 use Rattle.formula.proofs.ProperFormulas.{fine_at}
-use borrow.Author.Rules.{rules}
 use Rattle.checker_no.proofs.no_sheet.Goals as goal
-use Rattle.checker_no.proofs.no_sheet.Goals.{Else-n-i}
+use Rattle.checker_no.proofs.no_sheet.Goals.{Else-formula_count-i}
 
-pub returns-then-sheet-lt8 : goal.returns-then-sheet-lt8
+pub returns-then-sheet-le-NUMBER : goal.returns-then-sheet-le-NUMBER
 unfolding check_no
-returns-then-sheet-lt8 c = rw (lt-leb _ _ c.if-sheet-lt8.true)
+returns-then-sheet-le-NUMBER c = rw (lt-leb 8 (length c.args.sheet.now) (omega (arith, c.if-sheet-le-NUMBER.true)))
 
-pub returns-then-n-i : goal.returns-then-n-i
+pub returns-then-formula_count-i : goal.returns-then-formula_count-i
 unfolding check_no
-returns-then-n-i c = let l = c.args.sheet.now in
-    let n = length (formulas (question_of c.args.q) c.args.asked) in
-    rw (le-leb _ _ c.if-sheet-lt8.false, le-ltb (get_or l 7 0) n (omega (arith, c.if-n-i.true, c.formula_count-n.ensures)))
+returns-then-formula_count-i c = let l = c.args.sheet.now in
+    let n = length (formulas (question_of c.args.q.now) (asked_of c.args.asked)) in
+    rw (le-leb 8 (length l) (omega (arith, c.if-sheet-le-NUMBER.false)), le-ltb (get_or l 7 0) n (omega (arith, c.if-formula_count-i.true, c.formula_count.ensures)))
 
 -- the number is that of a formula
-numbered : (c : Else-n-i) → get_or c.args.sheet.now 7 0 < length (formulas (question_of c.args.q) c.args.asked)
-numbered c = omega (arith, c.if-n-i.false, c.formula_count-n.ensures)
-
-pub outline-o-requires : goal.outline-o-requires
-outline-o-requires c = (search rules, c.requires.0, c.requires.1, numbered (goal.at.outline-o-requires c).Else-n-i)
-
-pub slice_bounds-formula_rows-end : goal.slice_bounds-formula_rows-end
-slice_bounds-formula_rows-end c = sym c.outline-o.ensures.1.kinds
-
-pub slice_bounds-formula_rows-end-2 : goal.slice_bounds-formula_rows-end-2
-slice_bounds-formula_rows-end-2 c = sym c.outline-o.ensures.1.left
-
-pub slice_bounds-formula_rows-end-3 : goal.slice_bounds-formula_rows-end-3
-slice_bounds-formula_rows-end-3 c = sym c.outline-o.ensures.1.right
-
-pub slice_bounds-formula_rows-end-4 : goal.slice_bounds-formula_rows-end-4
-slice_bounds-formula_rows-end-4 c = sym c.outline-o.ensures.1.most
+numbered : (c : Else-formula_count-i) → get_or c.args.sheet.now 7 0 < length (formulas (question_of c.args.q.now) (asked_of c.args.asked))
+numbered c = omega (arith, c.if-formula_count-i.false, c.formula_count.ensures)
 
 pub formula_rows-requires : goal.formula_rows-requires
-formula_rows-requires c = (c.requires.0, fine_at (question_of c.args.q) c.requires.1 c.args.asked (get_or c.args.sheet.now 7 0) (numbered (goal.at.formula_rows-requires c).Else-n-i) _ c.outline-o.ensures.0, c.if-sheet-lt8.false)
+formula_rows-requires c = (fine_at (question_of c.args.q.now) (accepted_of c.args.q.now) (asked_of c.args.asked) (get_or c.args.sheet.now 7 0) (numbered (goal.at.formula_rows-requires c).Else-formula_count-i) _ c.outline.ensures.0, c.if-sheet-le-NUMBER.false)
 
 pub returns : goal.returns
 unfolding check_no
 returns c = let l = c.args.sheet.now in
-    let Fs = formulas (question_of c.args.q) c.args.asked in
-    rw (le-leb _ _ c.if-sheet-lt8.false, lt-ltb (get_or l 7 0) (length Fs) (numbered (goal.at.returns c).Else-n-i))
-    (c.formula_rows.ensures (formula_at Fs (get_or l 7 0)) c.outline-o.ensures.0)
+    let Fs = formulas (question_of c.args.q.now) (asked_of c.args.asked) in
+    rw (le-leb 8 (length l) (omega (arith, c.if-sheet-le-NUMBER.false)), lt-ltb (get_or l 7 0) (length Fs) (numbered (goal.at.returns c).Else-formula_count-i))
+    (c.formula_rows.ensures (formula_at Fs (get_or l 7 0)) c.outline.ensures.0)

@@ -6,7 +6,7 @@ use Rattle.closure.proofs.relax_in.Given as goal
 
 -- up to u each row is the relaxed one
 abbrev pub invariant-loop-u : goal.invariant-loop-u
-invariant-loop-u l = (l.u ≤ l.n) × (l.near ≡ filled (new_row l.initial.near l.n l.b l.a l.k) l.u l.initial.near)
+invariant-loop-u l = (l.u ≤ l.n) × (l.rows ≡ filled (new_row l.initial.rows l.n l.e.from l.e.to l.e.weight) l.u l.initial.rows)
 
 abbrev pub decreases-loop-u : goal.decreases-loop-u
 decreases-loop-u l = l.n - l.u

@@ -22,16 +22,12 @@ pub loop-v-init : goal.loop-v-init
 unfolding filled
 loop-v-init c = (search rules, refl, refl)
 
-pub overflow_add-round : goal.overflow_add-round
-overflow_add-round c = let there = c.requires.row_within.entry c.loop-v.v c.loop-v-test.true in
-    simp (to_z-of_z, c.ranges.reach, exact_wide _ there) (exact_two c.args.reach _ c.requires.bounded there)
-
 pub loop-v-preserved : goal.loop-v-preserved
 loop-v-preserved c = let l = c.loop-v in
     let row = c.args.row.now in
     let on = c.args.on.now in
     let old : SFits w64 (get_or l.row l.v (pos 0)) = search rules in
-    let way = c.requires.row_within.entry l.v c.loop-v-test.true in
+    let way = c.requires.within.entry l.v c.loop-v-test.true in
     let there : get_or l.row l.v (pos 0) ≡ get_or row l.v (pos 0) = ap (λ h. get_or h l.v (pos 0)) l.invariant.2 ∙ filled_out _ l.v row l.v (pos 0) (omega arith) in
     let told : c.lesser.result ≡ min_z (get_or l.row l.v (pos 0)) (c.args.reach +ℤ get_or on l.v (pos 0)) = simp (to_z-of_z, c.ranges.reach, old, exact_wide _ way, exact_two c.args.reach _ c.requires.bounded way) at c.lesser.ensures in
     let new : c.lesser.result ≡ better row on c.args.reach l.v = told ∙ ap (λ (z : ℤ). min_z z (c.args.reach +ℤ get_or on l.v (pos 0))) there in (
@@ -39,7 +35,3 @@ loop-v-preserved c = let l = c.loop-v in
       length-set l.row l.v _ ∙ l.invariant.1,
       filled_more _ l.v row l.row _ l.invariant.2 (to_z-of_z {w = w64} (record { sfits = c.lesser.type_inv }) ∙ new ∙ ap (λ (z : ℤ). better row on z l.v) (sym (to_z-of_z c.ranges.reach))),
     )
-
-pub returns : goal.returns
-returns c = let all : c.loop-v.v ≡ c.args.n = omega arith in
-    rw all at (simp (to_z-of_z, c.ranges.reach) at c.loop-v.invariant.2)

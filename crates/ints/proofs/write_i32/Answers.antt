@@ -1,31 +1,22 @@
+use mathlib.Core.Path.{◌≡◌, ap, ◌∙◌}
+use mathlib.Core.List.{List, ◌++◌, append_assoc}
 use native.Mathlib.Omega.{arith}
-use mathlib.Core.Path.{ap, ◌∙◌}
-use mathlib.Core.List.{◌++◌}
-use Prim.Native.Nat.{ℕ, ◌+◌, ◌/◌, ◌%◌}
+use Prim.Native.Nat.{ℕ, ◌+◌, ◌-◌}
+use lib.ListN.{take, drop}
+use borrow.Rule.Slice.PartMut.{put_mid}
 use mir.Syntax.{w32}
 use mir.Val.{of_z}
 use mir.Facts.{to_z-of_z}
-use lib.ListN.{length-set, take, drop}
-use Rattle.page_numbers.proofs.Stores.{four_stores}
+use Rattle.std.proofs.lemmas.List.{drop-drop}
 use Rattle.page_numbers.specs.Bytes.{put32, bytes4}
 use Rattle.ints.proofs.write_i32.Goals as goal
 
-pub bounds-s-p-2 : goal.bounds-s-p-2
-bounds-s-p-2 c = simp length-set (omega arith)
-
-pub bounds-s-p-3 : goal.bounds-s-p-3
-bounds-s-p-3 c = simp length-set (omega arith)
-
-pub bounds-s-p-4 : goal.bounds-s-p-4
-bounds-s-p-4 c = simp length-set (omega arith)
-
-pub shape_of-s : goal.shape_of-s
-shape_of-s c = simp length-set
+put_four : (s bytes : List ℕ) (p : ℕ) → put_mid p (p + 4 - p) s bytes ≡ take p s ++ bytes ++ drop (p + 4) s
+put_four s bytes p = rw append_assoc (ap (λ r. take p s ++ (bytes ++ r)) (drop-drop (p + 4 - p) p s ∙ ap (λ n. drop n s) (omega arith)))
 
 pub returns : goal.returns
 unfolding put32 bytes4
 returns c = let s = c.args.s.now in
     let p = c.args.p in
-    let n = c.to_bits-n.result in
-    four_stores s p (n % 256) (n / 256 % 256) (n / 65536 % 256) (n / 16777216 % 256) c.requires
-    ∙ ap (λ (m : ℕ). take p s ++ bytes4 m ++ drop (p + 4) s) (c.to_bits-n.ensures ∙ ap (of_z w32) (to_z-of_z c.ranges.z))
+    put_four s c.copy_from_slice.new.self p
+    ∙ ap (λ b. take p s ++ b ++ drop (p + 4) s) (c.copy_from_slice.ensures.after ∙ c.to_le_bytes.ensures ∙ ap (λ z. bytes4 (of_z w32 z)) (to_z-of_z c.ranges.z))

@@ -7,7 +7,7 @@ use Rattle.spreads.specs.Spread.{spread}
 use Rattle.spreads.proofs.begin.Given as goal
 
 abbrev pub invariant-loop-u : goal.invariant-loop-u
-invariant-loop-u l = (l.u ≤ l.count) × Sized most_vertices l.near × ((r v : ℕ) → r < l.u → v < l.count → weight l.near r v ≡ spread l.flags l.lo l.hi r v)
+invariant-loop-u l = (l.u ≤ l.vertices.count) × Sized most_vertices l.rows × ((r v : ℕ) → r < l.u → v < l.vertices.count → weight l.rows r v ≡ spread l.vertices.ranges r v)
 
 abbrev pub decreases-loop-u : goal.decreases-loop-u
-decreases-loop-u l = l.count - l.u
+decreases-loop-u l = l.vertices.count - l.u

@@ -1,12 +1,12 @@
 use mathlib.Core.Path.{◌≡◌}
-use Prim.Native.Nat.{◌-◌, ◌≤◌}
+use Prim.Native.Nat.{ℕ, ◌-◌, ◌≤◌, ◌<◌}
 use lib.IntN.{pos, ◌-ℤ◌}
-use lib.ListN.{get_or}
-use Rattle.page_walks.specs.Sizes.{filled}
+use lib.ListN.{length, get_or}
+use Rattle.page_meaning.specs.Limits.{most_vertices}
 use Rattle.spreads.proofs.spread_row.Given as goal
 
 abbrev pub invariant-loop-v : goal.invariant-loop-v
-invariant-loop-v l = (l.v ≤ l.count) × (l.row ≡ filled (λ i. get_or l.high i (pos 0) -ℤ l.low) l.v l.initial.row)
+invariant-loop-v l = (l.v ≤ l.count) × (length l.row ≡ most_vertices) × ((i : ℕ) → i < l.v → get_or l.row i (pos 0) ≡ get_or l.high i (pos 0) -ℤ l.low)
 
 abbrev pub decreases-loop-v : goal.decreases-loop-v
 decreases-loop-v l = l.count - l.v

@@ -26,35 +26,19 @@ one_fits n u l r h = exact_wide _ (r.entry u h)
 both_fit : (n u : ℕ) (edges on : List ℤ) → RowWithin wide n edges → RowWithin wide n on → u < n → SFits w64 (onward edges on u)
 both_fit n u edges on r s h = exact_two _ _ (r.entry u h) (s.entry u h)
 
-pub overflow_add-sum : goal.overflow_add-sum
-overflow_add-sum c = let a = c.args in
-    let r = c.requires in
-    simp (to_z-of_z, one_fits a.n 0 a.edges.now r.row_within r.n_nonzero.0, one_fits a.n 0 a.on.now r.row_within_2 r.n_nonzero.0) (both_fit a.n 0 a.edges.now a.on.now r.row_within r.row_within_2 r.n_nonzero.0)
-
 pub loop-u-init : goal.loop-u-init
 unfolding least
 loop-u-init c = let a = c.args in
     let r = c.requires in
-    (search rules, r.n_nonzero.0, simp (to_z-of_z, one_fits a.n 0 a.edges.now r.row_within r.n_nonzero.0, one_fits a.n 0 a.on.now r.row_within_2 r.n_nonzero.0, both_fit a.n 0 a.edges.now a.on.now r.row_within r.row_within_2 r.n_nonzero.0))
-
-pub overflow_add-other : goal.overflow_add-other
-overflow_add-other c = let a = c.args in
-    let r = c.requires in
-    let u = c.loop-u.u in
-    let h = c.loop-u-test.true in
-    simp (to_z-of_z, one_fits a.n u a.edges.now r.row_within h, one_fits a.n u a.on.now r.row_within_2 h) (both_fit a.n u a.edges.now a.on.now r.row_within r.row_within_2 h)
+    (search rules, r.count.0, simp (to_z-of_z, one_fits a.n 0 a.edges.now r.edges_within r.count.0, one_fits a.n 0 a.on.now r.on_within r.count.0, both_fit a.n 0 a.edges.now a.on.now r.edges_within r.on_within r.count.0))
 
 pub loop-u-preserved : goal.loop-u-preserved
 loop-u-preserved c = let a = c.args in
     let r = c.requires in
     let l = c.loop-u in
     let h = c.loop-u-test.true in
-    let new : c.lesser-sum.result ≡ min_z (to_z w64 l.sum-bits) (onward a.edges.now a.on.now l.u) = simp (to_z-of_z, one_fits a.n l.u a.edges.now r.row_within h, one_fits a.n l.u a.on.now r.row_within_2 h, both_fit a.n l.u a.edges.now a.on.now r.row_within r.row_within_2 h) at c.lesser-sum.ensures in (
+    let new : c.lesser-sum.result ≡ min_z (to_z w64 l.sum-bits) (onward a.edges.now a.on.now l.u) = simp (to_z-of_z, one_fits a.n l.u a.edges.now r.edges_within h, one_fits a.n l.u a.on.now r.on_within h, both_fit a.n l.u a.edges.now a.on.now r.edges_within r.on_within h) at c.lesser-sum.ensures in (
       search rules,
       omega (arith, h),
       to_z-of_z {w = w64} (record { sfits = c.lesser-sum.type_inv }) ∙ new ∙ ap (λ (z : ℤ). min_z z (onward a.edges.now a.on.now l.u)) l.invariant.2 ∙ sym (least_more (onward a.edges.now a.on.now) l.u l.invariant.0),
     )
-
-pub returns : goal.returns
-returns c = let all : c.loop-u.u ≡ c.args.n = omega arith in
-    rw all at c.loop-u.invariant.2

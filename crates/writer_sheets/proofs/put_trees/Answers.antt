@@ -1,32 +1,43 @@
 use borrow.Author.Rules.{rules}
 use native.Mathlib.Omega.{arith}
 use Prim.Native.Nat.{◌<◌}
+use mathlib.Core.Path.{refl, ◌∙◌}
 use lib.ListN.{length}
-use Rattle.question.specs.Held.{question_of}
+use Rattle.question.specs.Held.{question_of, asked_of}
 use Rattle.page_formulas.specs.Formulas.{formulas}
+use Rattle.room.specs.Room.{begun, stopped}
+use Rattle.room.proofs.PutBytes.{stopped_is}
 use Rattle.writer_sheets.proofs.Trees.{sown_start, sown_more, sown_over, sown_end}
 use Rattle.writer_sheets.proofs.put_trees.Goals as goal
 use Rattle.writer_sheets.proofs.put_trees.Goals.{In-loop-i}
 
-pub loop-i-init : goal.loop-i-init
-loop-i-init c = (omega arith, search rules, sown_start _ _ _ _)
-
-pub returns-then-over : goal.returns-then-over
-returns-then-over c = let l = c.loop-i in
-    λ ts e. sown_over (question_of c.args.q) c.args.asked c.args.room.now c.args.spot l.i l.room l.next l.invariant.2 ts e c.if-over.true
-
 -- the next is one of them
-next_there : (c : In-loop-i) → c.loop-i.i < length (formulas (question_of c.args.q) c.args.asked)
-next_there c = omega (arith, c.loop-i-test.true, c.formula_count-n.ensures)
+there : (c : In-loop-i) → c.loop-i.i < length (formulas (question_of c.args.q.now) (asked_of c.args.asked))
+there c = omega (arith, c.loop-i-test.true, c.formula_count-i-end.ensures)
 
-pub put_tree-next-requires : goal.put_tree-next-requires
-put_tree-next-requires c = (c.requires.0, c.requires.1, next_there (goal.at.put_tree-next-requires c).In-loop-i)
+pub loop-i-init : goal.loop-i-init
+loop-i-init c = record { same_reference = refl; sown = sown_start _ _ _ }
+
+pub put_tree-requires : goal.put_tree-requires
+put_tree-requires c = (c.requires.0, c.requires.1, there (goal.at.put_tree-requires c).In-loop-i)
 
 pub loop-i-preserved : goal.loop-i-preserved
 loop-i-preserved c = let l = c.loop-i in
-    let h = next_there (goal.at.loop-i-preserved c).In-loop-i in
-    (search rules, search rules, sown_more (question_of c.args.q) c.args.asked c.args.room.now c.args.spot l.i l.room l.next l.invariant.2 c.requires.2.0 c.requires.2.1 h _ c.put_tree-next.result c.put_tree-next.ensures)
+    let all = c.requires.2 in
+    let i = there (goal.at.loop-i-preserved c).In-loop-i in record {
+      same_reference = search rules;
+      sown = sown_more _ _ _ l.i (begun l.sink) l.invariant.sown all.0 all.1 i _ c.in_ok-put_tree.ensures.grows;
+    }
 
-pub returns : goal.returns
-returns c = let l = c.loop-i in
-    λ ts e. sown_end (question_of c.args.q) c.args.asked c.args.room.now c.args.spot l.i l.room l.next l.invariant.2 ts e (omega (arith, c.loop-i-test.false, l.invariant.0, c.formula_count-n.ensures))
+-- Every tree is shut, so a byte that found no room ends the work.
+pub returns-in_err-put_tree-clause-filled : goal.returns-in_err-put_tree-clause-filled
+returns-in_err-put_tree-clause-filled c = λ ts all.
+    let l = c.loop-i in
+    let i = there (goal.at.returns-in_err-put_tree-clause-filled c).In-loop-i in
+    let next = sown_more _ _ _ l.i (begun l.sink) l.invariant.sown ts all i (stopped c.put_tree.new.sink) c.in_err-put_tree.ensures.grows in
+    stopped_is c.put_tree.new.sink c.from_residual.result c.from_residual.ensures.0 ∙ sown_over _ _ _ _ _ next ts all refl
+
+pub returns-clause-filled : goal.returns-clause-filled
+returns-clause-filled c = λ ts all.
+    let l = c.loop-i in
+    sown_end _ _ _ l.i (begun l.sink) l.invariant.sown ts all (omega (arith, c.loop-i-test.false, l.auto.i-end, c.formula_count-i-end.ensures))

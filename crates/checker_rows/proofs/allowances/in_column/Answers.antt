@@ -1,7 +1,24 @@
-use mathlib.Core.Path.{◌∙◌}
+use Rattle.std.proofs.Common.{◌≡◌, get_or, true, false, ◌∙◌, rules, w32, SFits}
 use mir.Facts.{to_z-of_z}
-use Rattle.checker_rows.proofs.AllowedValues.{in_column_lem}
+use lib.Signed.{le_z}
+use Rattle.page_meaning.specs.Contents.{in_range}
+use Rattle.sights.specs.Sights.{no_column}
+use Rattle.checker_rows.proofs.AllowedValues.{in_column_lem, and_so, and_not}
 use Rattle.checker_rows.proofs.allowances.in_column.Goals as goal
 
-pub returns : goal.returns
-returns c = (rw (to_z-of_z c.ranges.z) at c.in_range.ensures) ∙ in_column_lem c.args.q c.requires.0 c.args.c c.requires.1 c.args.z
+pub returns-then-z-column : goal.returns-then-z-column
+unfolding in_range
+returns-then-z-column c = let a = c.args in
+    let k = get_or a.q.now.columns a.c no_column in
+    let hi : SFits w32 k.hi = search rules in
+    let lo : SFits w32 k.lo = search rules in
+    let t : le_z a.z k.hi ≡ true = rw (to_z-of_z hi, to_z-of_z c.ranges.z) at c.if-z-column.true in
+    rw (to_z-of_z lo, to_z-of_z c.ranges.z) (and_so (le_z a.z k.hi) (le_z k.lo a.z) t ∙ in_column_lem a.q.now c.requires.0 a.c c.requires.1 a.z)
+
+pub returns-else-z-column : goal.returns-else-z-column
+unfolding in_range
+returns-else-z-column c = let a = c.args in
+    let k = get_or a.q.now.columns a.c no_column in
+    let hi : SFits w32 k.hi = search rules in
+    let t : le_z a.z k.hi ≡ false = rw (to_z-of_z hi, to_z-of_z c.ranges.z) at c.if-z-column.false in
+    rw (to_z-of_z hi, to_z-of_z c.ranges.z, t) (and_not (le_z a.z k.hi) (le_z k.lo a.z) t ∙ in_column_lem a.q.now c.requires.0 a.c c.requires.1 a.z)

@@ -1,13 +1,11 @@
-use Prim.Native.Nat.{◌-◌, ◌≤◌}
-use mathlib.Core.Path.{◌≡◌}
-use lib.ListN.{length}
+use Rattle.std.proofs.Common.{◌≡◌, ◌≤◌, ◌-◌, length}
 use Rattle.question.specs.Held.{question_of}
 use Rattle.page_sheets.specs.Rows.{field_at, field_ok}
 use Rattle.page_sheets.specs.Sheet.{Answer, check_fields}
 use Rattle.checker_rows.proofs.fields.fields.Given as goal
 
 abbrev pub invariant-loop-j : goal.invariant-loop-j
-invariant-loop-j l = (l.j ≤ l.count) × (field_at l.j ≤ length l.sheet) × ((next : Answer) → check_fields (field_ok (question_of l.q) l.i l.sheet) l.sheet (l.count - l.j) l.j next ≡ check_fields (field_ok (question_of l.q) l.i l.sheet) l.sheet l.count 0 next)
-
-abbrev pub decreases-loop-j : goal.decreases-loop-j
-decreases-loop-j l = l.count - l.j
+invariant-loop-j l = record {
+  inside : field_at l.j ≤ length l.sheet;
+  same : (next : Answer) → check_fields (field_ok (question_of l.q) l.i l.sheet) l.sheet (l.count - l.j) l.j next ≡ check_fields (field_ok (question_of l.q) l.i l.sheet) l.sheet l.count 0 next;
+}

@@ -1,25 +1,22 @@
-use mathlib.Core.Path.{sym, ap, ◌∙◌}
-use native.Mathlib.Omega.{arith}
-use lib.ListN.{length}
-use lib.Seq.{length-take-le}
-use Rattle.truth.specs.Cells.{three_of}
-use Rattle.checker_rows.proofs.Truths.{met_settles}
+use Rattle.std.proofs.Common.{◌≡◌, Bool, false, refl, sym, ap, ◌∙◌}
+use Rattle.truth.specs.Values.{three_of}
+use Rattle.truth.specs.declared.truths.Truth.{Truth}
+use Rattle.truth.specs.declared.truths.Truth.TheVariants.{Fails, Open, Passes}
+use Rattle.checker_rows.proofs.Truths.{Settles, met_settles}
 use Rattle.checker_rows.proofs.values.met.Goals as goal
 
-pub slice_bounds-known-end : goal.slice_bounds-known-end
-slice_bounds-known-end c = sym (length-take-le (length c.args.left.now) c.decisions-t.result (omega (arith, c.requires.1.few, c.decisions-t.ensures.long)))
-
-pub returns-in-Fails : goal.returns-in-Fails
-returns-in-Fails c = λ F x lent same.
-    let a = c.args in
-    sym (met_settles F a.kinds.now a.left.now a.right.now a.most.now lent x a.values same c.decisions-t.result c.decisions-t.ensures c.requires.1.few _ (sym (ap three_of c.in-Fails.is) ∙ c.known-k.ensures))
+-- what is known and doesn't pass fails
+fails_else : (t : Truth) (b : Bool) → ¬ (t ≡ Passes) → Settles (three_of t) b → b ≡ false
+fails_else Fails b f s = s
+fails_else Open b f s = absurd s
+fails_else Passes b f s = absurd (f refl)
 
 pub returns-in-Passes : goal.returns-in-Passes
 returns-in-Passes c = λ F x lent same.
     let a = c.args in
-    sym (met_settles F a.kinds.now a.left.now a.right.now a.most.now lent x a.values same c.decisions-t.result c.decisions-t.ensures c.requires.1.few _ (sym (ap three_of c.in-Passes.is) ∙ c.known-k.ensures))
+    sym (met_settles F a.instructions.now a.places.now lent x a.values.now same c.decisions-truths.result c.decisions-truths.ensures c.requires.1.few _ (sym (ap three_of c.in-Passes.is) ∙ c.known.ensures))
 
-pub returns-in-Open : goal.returns-in-Open
-returns-in-Open c = λ F x lent same.
+pub returns-in_default : goal.returns-in_default
+returns-in_default c = λ F x lent same.
     let a = c.args in
-    absurd (met_settles F a.kinds.now a.left.now a.right.now a.most.now lent x a.values same c.decisions-t.result c.decisions-t.ensures c.requires.1.few _ (sym (ap three_of c.in-Open.is) ∙ c.known-k.ensures))
+    sym (fails_else _ _ c.in_default.not-Passes (met_settles F a.instructions.now a.places.now lent x a.values.now same c.decisions-truths.result c.decisions-truths.ensures c.requires.1.few _ c.known.ensures))

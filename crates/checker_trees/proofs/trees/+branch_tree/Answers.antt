@@ -1,75 +1,63 @@
-use Prim.Native.Nat.{ℕ, ◌-◌, ◌≤◌, ◌<◌}
-use mathlib.Core.Path.{◌≡◌, refl, sym, ap, ◌∙◌}
-use mathlib.Core.List.{List}
-use lib.Dec.{eqb}
-use native.Mathlib.Omega.{arith}
-use borrow.Author.Rules.{rules}
-use lib.ListN.{length, length-map}
-use mir.Syntax.{w64}
-use mir.Val.{SFits}
-use Rattle.page_meaning.specs.Limits.{most_decisions}
+use Rattle.std.proofs.Common.{◌+◌, true, false, ap, ◌∙◌, arith, rules}
+use Rattle.std.proofs.lemmas.Result.{err_from_is_err_and}
 use Rattle.grid.specs.Facts.{with_fact}
+use Rattle.program.proofs.Ranges.{shows_of}
+use Rattle.refusal.specs.Numbers.{number_of}
 use Rattle.checker_nodes.specs.Nodes.{outcome_of}
-use Rattle.checker_trees.proofs.NodeReading.{left_end, left_false, left_cycle, left_other, left_none, left_both, left_refused}
 use Rattle.checker_trees.specs.declared.trees.Stage.{Stage}
-use Rattle.checker_trees.proofs.Halves.{half_less, half_ready, half_says}
+use Rattle.checker_trees.proofs.NodeReading.{left_end, left_false, left_cycle, left_other, left_none, left_both, left_bad}
+use Rattle.checker_trees.proofs.Halves.{half_reached, half_says}
 use Rattle.checker_trees.proofs.trees.+branch_tree.Goals as goal
 
--- the truths are as many as declared, and the place that is decided is one of them
-room_of : (left truths : List ℕ) (todo : ℕ) → length truths ≡ most_decisions → length left ≤ most_decisions → todo ≤ length left → 0 < todo → length left - todo < length truths
-room_of left truths todo whole places few some = omega (arith, whole, places, few, some)
-
-pub branch-tree-one-requires : goal.branch-tree-one-requires
-branch-tree-one-requires t c =
-    let a = c.args in
+-- the two halves, as they are handed down
+pub branch-tree-requires : goal.branch-tree-requires
+branch-tree-requires t c = let a = c.args in
     let q = c.requires in
-    let l = c.loop-p in
-    let fits : SFits w64 a.stage.fact.weight = search rules in
-    let todo : c.below-next.result.todo ≡ a.stage.todo - 1 = ap (λ (x : Stage). x.todo) c.below-next.ensures in
-    let fact : c.below-next.result.fact ≡ c.added-fact.result = ap (λ (x : Stage). x.fact) c.below-next.ensures in
-    let less = half_less _ _ _ _ _ q.lendable a.g.now a.stage q.todo_in_bounds.0 q.todo_nonzero.0 q.todo_in_bounds.1 fits _ c.tighten-facts.ensures (eqb l.truth 1) _ c.added-fact.ensures c.below-next.result todo in
-    let ready = half_ready _ _ _ _ _ q.lendable a.g.now a.stage q.todo_in_bounds.0 q.todo_nonzero.0 q.todo_in_bounds.1 fits _ c.tighten-facts.ensures (eqb l.truth 1) _ c.added-fact.ensures c.below-next.result todo fact in
-    (omega (arith, less, c.decreases), (q.lendable, ready))
+    let ready = half_reached a.f.now q.reached.0 a.g.now.rows a.stage.now q.reached.1 q.node.0 _ c.tighten-facts.ensures true (a.stage.now.at + 1) c.decide.result c.decide.ensures in
+    let more = ap (λ (s : Stage). s.decided) c.decide.ensures in
+    (omega (arith, c.decreases, more, q.node.0), (q.reached.0, ready))
 
-pub branch-returns-in-Refused : goal.branch-returns-in-Refused
-branch-returns-in-Refused t c = λ F base lent shows.
-    let a = c.args in
+pub branch-tree-requires-2 : goal.branch-tree-requires-2
+branch-tree-requires-2 t c = let a = c.args in
     let q = c.requires in
-    let l = c.loop-p in
-    let fits : SFits w64 a.stage.fact.weight = search rules in
-    let few = q.todo_in_bounds.0 in
-    let room : length a.left.now - a.stage.todo < length a.stage.truths = room_of a.left.now a.stage.truths a.stage.todo c.well_formed.1.1.1.1.1.1.1.0.1.1.1.0.1.0.1 q.lendable.places.few few q.todo_nonzero.0 in
-    left_refused F a.stage.truths (with_fact a.g.now a.stage.fact) a.part.now a.stage.at base a.stage.todo q.todo_nonzero.1 q.todo_nonzero.2 a.kinds.now a.left.now a.right.now a.most.now lent (λ none. omega (arith, none, q.todo_nonzero.0)) few _ refl room l.truth l.at _ _ (eqb l.truth 1) l.invariant.0 (λ z. rw z) (λ z. rw z) l.invariant.1 (λ z. l.invariant.2 z F base lent shows)
-    (half_says _ _ _ _ _ q.lendable a.g.now a.stage few q.todo_nonzero.0 q.todo_in_bounds.1 fits _ c.tighten-facts.ensures (eqb l.truth 1) _ c.added-fact.ensures c.below-next.result l.at l.truth c.below-next.ensures a.part.now F base _ (sym (ap (outcome_of base a.part.now) c.in-Refused.is) ∙ c.tree-one.ensures F base lent shows))
+    let ready = half_reached a.f.now q.reached.0 a.g.now.rows a.stage.now q.reached.1 q.node.0 _ c.tighten-facts.ensures false c.in_ok-middle.middle c.decide-2.result c.decide-2.ensures in
+    let more = ap (λ (s : Stage). s.decided) c.decide-2.ensures in
+    (omega (arith, c.decreases, more, q.node.0), (q.reached.0, ready))
 
-pub branch-returns-then-truth-eq0 : goal.branch-returns-then-truth-eq0
-branch-returns-then-truth-eq0 t c = λ F base lent shows.
-    let a = c.args in
+pub branch-returns-in_err-middle : goal.branch-returns-in_err-middle
+branch-returns-in_err-middle t c = λ F base is. let a = c.args in
+    let s = a.stage.now in
+    let r = c.in_err-middle.field-0.0 in
+    let p = err_from_is_err_and c.from_residual.result c.from_residual.ensures.1 in
     let q = c.requires in
-    let l = c.loop-p in
-    let fits : SFits w64 a.stage.fact.weight = search rules in
-    let few = q.todo_in_bounds.0 in
-    let room : length a.left.now - a.stage.todo < length a.stage.truths = room_of a.left.now a.stage.truths a.stage.todo c.well_formed.1.1.1.1.1.1.1.0.1.1.1.0.1.0.1 q.lendable.places.few few q.todo_nonzero.0 in
-    let second = half_says _ _ _ _ _ q.lendable a.g.now a.stage few q.todo_nonzero.0 q.todo_in_bounds.1 fits _ c.tighten-facts.ensures (eqb l.truth 1) _ c.added-fact.ensures c.below-next.result l.at l.truth c.below-next.ensures a.part.now F base _ (sym (ap (outcome_of base a.part.now) c.in-Good.is) ∙ c.tree-one.ensures F base lent shows) in
-    left_both F a.stage.truths (with_fact a.g.now a.stage.fact) a.part.now a.stage.at base a.stage.todo q.todo_nonzero.1 q.todo_nonzero.2 a.kinds.now a.left.now a.right.now a.most.now lent (λ none. omega (arith, none, q.todo_nonzero.0)) few _ refl room l.at _ (l.invariant.2 c.if-truth-eq0.true F base lent shows) (rw c.if-truth-eq0.true at second)
+    let first = half_says a.f.now q.reached.0 a.g.now.rows s q.reached.1 q.node.0 _ c.tighten-facts.ensures true (s.at + 1) c.decide.result c.decide.ensures a.part.now F base _ is (c.in_err-middle.ensures F base is) in
+    rw (p.1, p.2) (left_bad F s.decided s.truths (with_fact a.g.now.rows s.last) a.part.now s.at base q.node.1 q.node.2 (omega (arith, q.node.0, is.program.decided)) (search rules) (number_of r.fault) (base + r.place) first)
+
+pub branch-returns : goal.branch-returns
+branch-returns t c = λ F base is. let a = c.args in
+    let s = a.stage.now in
+    let q = c.requires in
+    let first = half_says a.f.now q.reached.0 a.g.now.rows s q.reached.1 q.node.0 _ c.tighten-facts.ensures true (s.at + 1) c.decide.result c.decide.ensures a.part.now F base _ is (c.in_ok-middle.ensures F base is) in
+    let second = half_says a.f.now q.reached.0 a.g.now.rows s q.reached.1 q.node.0 _ c.tighten-facts.ensures false c.in_ok-middle.middle c.decide-2.result c.decide-2.ensures a.part.now F base _ is (c.tree-2.ensures F base is) in
+    left_both F s.decided s.truths (with_fact a.g.now.rows s.last) a.part.now s.at base q.node.1 q.node.2 (omega (arith, q.node.0, is.program.decided)) (search rules) c.in_ok-middle.middle (outcome_of base a.part.now c.tree-2.result) first second
 
 pub tree-returns-then-part-at : goal.tree-returns-then-part-at
-tree-returns-then-part-at t c = λ F base lent shows. let a = c.args in
-    left_end F a.stage.truths (with_fact a.g.now a.stage.fact) a.part.now a.stage.at base a.stage.todo c.if-part-at.true
+tree-returns-then-part-at t c = λ F base is. let a = c.args in let s = a.stage.now in
+    left_end F s.decided s.truths (with_fact a.g.now.rows s.last) a.part.now s.at base c.if-part-at.true
 
-pub tree-returns-then-node-eq1 : goal.tree-returns-then-node-eq1
-tree-returns-then-node-eq1 t c = λ F base lent shows. let a = c.args in
-    c.false_leaf.ensures base
-    ∙ rw lent.kinds (left_false F a.stage.truths (with_fact a.g.now a.stage.fact) a.part.now a.stage.at base a.stage.todo c.if-part-at.false (length a.left.now - a.stage.todo) (ap (λ n. n - a.stage.todo) (ap length lent.left ∙ simp length-map)) c.if-node-eq1.true)
+pub tree-returns-in-1 : goal.tree-returns-in-1
+tree-returns-in-1 t c = λ F base is. let a = c.args in let s = a.stage.now in
+    c.false_leaf.ensures base a.part.now
+    ∙ rw (c.instructions.ensures, is.program.instructions) (left_false F s.decided s.truths (with_fact a.g.now.rows s.last) a.part.now s.at base c.if-part-at.false c.in-1.is)
 
-pub tree-returns-then-node-eq2 : goal.tree-returns-then-node-eq2
-tree-returns-then-node-eq2 t c = λ F base lent shows. let a = c.args in
-    c.cycle.ensures F base shows ∙ left_cycle F a.stage.truths (with_fact a.g.now a.stage.fact) a.part.now a.stage.at base a.stage.todo c.if-part-at.false c.if-node-eq2.true
+pub tree-returns-in-2 : goal.tree-returns-in-2
+tree-returns-in-2 t c = λ F base is. let a = c.args in let s = a.stage.now in
+    c.cycle.ensures F base (shows_of a.f.now F is) ∙ left_cycle F s.decided s.truths (with_fact a.g.now.rows s.last) a.part.now s.at base c.if-part-at.false c.in-2.is
 
-pub tree-returns-then-node-ne3 : goal.tree-returns-then-node-ne3
-tree-returns-then-node-ne3 t c = λ F base lent shows. let a = c.args in
-    left_other F a.stage.truths (with_fact a.g.now a.stage.fact) a.part.now a.stage.at base a.stage.todo c.if-part-at.false c.if-node-eq1.false c.if-node-eq2.false c.if-node-ne3.true
+pub tree-returns-in-3-2 : goal.tree-returns-in-3-2
+tree-returns-in-3-2 t c = λ F base is. let a = c.args in let s = a.stage.now in
+    left_none F s.decided s.truths (with_fact a.g.now.rows s.last) a.part.now s.at base c.if-part-at.false c.in-3.is (omega (arith, c.if-stage-f.false, is.program.decided))
 
-pub tree-returns-then-todo-eq0 : goal.tree-returns-then-todo-eq0
-tree-returns-then-todo-eq0 t c = λ F base lent shows. let a = c.args in
-    left_none F a.stage.truths (with_fact a.g.now a.stage.fact) a.part.now a.stage.at base a.stage.todo c.if-part-at.false c.if-node-ne3.false c.if-todo-eq0.true
+pub tree-returns-in_default : goal.tree-returns-in_default
+tree-returns-in_default t c = λ F base is. let a = c.args in let s = a.stage.now in
+    left_other F s.decided s.truths (with_fact a.g.now.rows s.last) a.part.now s.at base c.if-part-at.false (omega arith) (omega arith) (omega arith)

@@ -1,17 +1,14 @@
-use mathlib.Core.Path.{ap}
-use mathlib.Core.Bool.{true}
-use native.Mathlib.Omega.{arith}
-use lib.ListN.{length}
+use Rattle.std.proofs.Common.{true, length, ap, arith}
 use Rattle.page_meaning.specs.Claims.{modification}
-use Rattle.question.specs.Held.{version_of}
+use Rattle.question.specs.Held.{version_of, asked_of}
 use Rattle.formula.proofs.Counts.{modify_first, modify_second}
 use Rattle.formula.proofs.formulas.modify_count.Goals as goal
 
-pub returns-in-One : goal.returns-in-One
-returns-in-One c = omega (arith, ap (λ v. length (modification (version_of v) true)) c.in-One.is, modify_first c.args.q c.args.asked c.requires c.if-asked-eq1.true)
+pub returns-in-Irrelevant-One : goal.returns-in-Irrelevant-One
+returns-in-Irrelevant-One c = let w = c.in-Irrelevant-One in omega (arith, ap (λ v. length (modification (version_of v) true)) w.is-1, modify_first c.args.q.now (asked_of c.args.asked) c.requires (ap asked_of w.is-0))
 
-pub returns-in-Two : goal.returns-in-Two
-returns-in-Two c = omega (arith, ap (λ v. length (modification (version_of v) true)) c.in-Two.is, modify_first c.args.q c.args.asked c.requires c.if-asked-eq1.true)
+pub returns-in-Irrelevant-Two : goal.returns-in-Irrelevant-Two
+returns-in-Irrelevant-Two c = let w = c.in-Irrelevant-Two in omega (arith, ap (λ v. length (modification (version_of v) true)) w.is-1, modify_first c.args.q.now (asked_of c.args.asked) c.requires (ap asked_of w.is-0))
 
-pub returns : goal.returns
-returns c = modify_second c.args.q c.args.asked c.requires c.if-asked-eq1.false
+pub returns-in-Computable-default : goal.returns-in-Computable-default
+returns-in-Computable-default c = let e = ap asked_of c.in-Computable-default.is-0 in modify_second c.args.q.now (asked_of c.args.asked) c.requires (λ h. omega (arith, e))

@@ -1,30 +1,21 @@
-use native.Mathlib.Omega.{arith}
-use Rattle.program.proofs.Weights.{within, room_less}
+use Rattle.std.proofs.Common.{arith}
 use Rattle.pieces.proofs.Tokens.{tokens_begin, token_uses, token_room, token_more, tokens_end}
 use Rattle.pieces.proofs.conditions.condition.Goals as goal
 
-pub emit-requires : goal.emit-requires
-emit-requires c = room_less c.requires.0 (omega arith) (omega arith)
+pub loop-t-init : goal.loop-t-init
+loop-t-init c = tokens_begin c.args.s.now c.args.tokens.now c.requires.2 _ c.requires.0
 
-pub returns-then-n-eq0 : goal.returns-then-n-eq0
-returns-then-n-eq0 c = rw c.if-n-eq0.true (within (omega arith) (omega arith) c.emit.ensures)
-
-pub loop-i-init : goal.loop-i-init
-loop-i-init c = (omega arith, tokens_begin c.args.s c.args.c c.requires.2 _ c.requires.0)
-
-pub token-next-requires : goal.token-next-requires
-token-next-requires c = let l = c.loop-i in
-    let h = c.loop-i-test.true in (
-      token_room c.args.s c.args.c c.requires.2 l.i h l.invariant.1 c.requires.0,
+pub token-requires : goal.token-requires
+token-requires c = let l = c.loop-t in
+    let s = c.args.s.now in
+    let ts = c.args.tokens.now in (
+      token_room s ts c.requires.2 l.t-index c.loop-t-test.true l.invariant c.requires.0,
       c.requires.1,
-      token_uses c.args.s c.args.c c.requires.2 l.i h,
+      token_uses s ts c.requires.2 l.t-index c.loop-t-test.true,
     )
 
-pub loop-i-preserved : goal.loop-i-preserved
-loop-i-preserved c = let l = c.loop-i in
-    let h = c.loop-i-test.true in
-    (omega arith, token_more c.args.s c.args.c c.requires.2 l.i h l.invariant.1 c.token-next.ensures)
+pub loop-t-preserved : goal.loop-t-preserved
+loop-t-preserved c = let l = c.loop-t in token_more c.args.s.now c.args.tokens.now c.requires.2 l.t-index c.loop-t-test.true l.invariant c.token.ensures
 
 pub returns : goal.returns
-returns c = let l = c.loop-i in
-    tokens_end c.args.s c.args.c c.requires.2 _ _ l.i c.loop-i-test.false (omega arith) l.invariant.1
+returns c = let l = c.loop-t in tokens_end c.args.s.now c.args.tokens.now c.requires.2 _ _ l.t-index (omega arith) (grind arith) l.invariant

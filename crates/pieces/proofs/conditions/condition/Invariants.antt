@@ -1,10 +1,5 @@
-use Prim.Native.Nat.{◌-◌, ◌≤◌}
-use Rattle.program.specs.Built.{program_of}
 use Rattle.pieces.proofs.Tokens.{Tokens}
 use Rattle.pieces.proofs.conditions.condition.Given as goal
 
-abbrev pub invariant-loop-i : goal.invariant-loop-i
-invariant-loop-i l = (l.i ≤ l.n) × Tokens l.s l.c (program_of l.initial.kinds l.initial.left l.initial.right l.initial.most l.initial.next) (program_of l.kinds l.left l.right l.most l.next) l.i
-
-abbrev pub decreases-loop-i : goal.decreases-loop-i
-decreases-loop-i l = l.n - l.i
+abbrev pub invariant-loop-t : goal.invariant-loop-t
+invariant-loop-t l = Tokens l.s l.tokens l.initial.into l.into l.t-index

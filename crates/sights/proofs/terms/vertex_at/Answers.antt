@@ -1,6 +1,6 @@
-use mathlib.Core.Path.{◌∙◌}
+use Rattle.std.proofs.Common.{◌∙◌}
 use Rattle.sights.proofs.Sightings.{row_vertex}
 use Rattle.sights.proofs.terms.vertex_at.Goals as goal
 
 pub returns : goal.returns
-returns c = c.vertex_of.ensures ∙ row_vertex c.args.q c.requires.0 c.args.second c.args.i c.requires.1
+returns c = let a = c.args in c.vertex_of.ensures ∙ row_vertex a.q.now c.requires.0 a.second a.i c.requires.1

@@ -1,60 +1,41 @@
-use native.Mathlib.Omega.{arith}
 use Prim.Native.Nat.{◌-◌}
-use mathlib.Core.Path.{◌≡◌, sym}
-use lib.ListN.{length, take}
-use Rattle.page_meaning.specs.Limits.{most_vertices}
-use Rattle.page_formulas.specs.Formulas.{Formula}
-use Rattle.program.specs.Formulas as compiled
-use Rattle.program.specs.Compiled.{Compiled, formula_of}
-use Rattle.program.proofs.Loans.{kinds_long, places_long, small_spans, spanned_of}
-use Rattle.program.proofs.Ranges.{coded_of, ranging_of, ranged}
-use Rattle.spreads.proofs.RangeClosure.{zeros_sized}
-use Rattle.writer_trees.proofs.RootTrees.{begun_of, root_ready, root_grows}
+use mathlib.Core.Path.{subst, sym}
+use mathlib.Core.List.{[]}
+use native.Mathlib.Omega.{arith}
+use Rattle.program.proofs.Loans.{lent_of, count_few, instructions_long}
+use Rattle.program.proofs.Ranges.{ranged, ranging_of}
+use Rattle.page_sheets.specs.Growth.{grow_tree}
+use Rattle.page_sheets.specs.Sheet.{last_vertex}
+use Rattle.page_sheets.proofs.FastRule.{Here}
+use Rattle.program.specs.Lent.{Lent}
+use Rattle.writer_trees.specs.Places.{Placing}
+use Rattle.writer_trees.specs.Trees.{Grows, fast_at}
+use Rattle.writer_trees.proofs.Growths.{grows_same}
+use Rattle.writer_trees.proofs.RootTrees.{root_placing, facts_are, root_kept, root_tight, root_same}
 use Rattle.writer_trees.proofs.trees.plant_formula.Goals as goal
 
--- what is lent of the formula is as long as said
-lent_long : (f : compiled.Formula) (F : Formula) → Compiled f F → let p = f.program in (length (take p.count p.kinds) ≡ p.count) × (length (take p.places p.left) ≡ p.places) × (length (take p.places p.right) ≡ p.places) × (length (take p.places p.most) ≡ p.places)
-lent_long f F is = let k = coded_of f F is in
-    let l = places_long k in
-    (kinds_long k, l.0, l.1, l.2)
-
-pub start-facts-requires : goal.start-facts-requires
-start-facts-requires c = let a = c.args in
-    let q = c.requires in
-    small_spans _ _ _ _ (spanned_of (formula_of a.kinds.now a.left.now a.right.now a.most.now a.o) q.formula q.is q.proper.vertices) q.proper.ranges_small
-
 pub begin-requires : goal.begin-requires
-begin-requires c = let a = c.args in
-    let q = c.requires in record {
-      ranged = ranged _ _ _ _ _ (ranging_of (formula_of a.kinds.now a.left.now a.right.now a.most.now a.o) q.formula q.is q.proper.vertices) q.proper.ranges_small q.proper.ranges_some;
-      sized = zeros_sized most_vertices;
+begin-requires c = let f = c.args.f.now in
+    let q = c.requires in
+    ranged q.formula.ranges f.vertices.count f.vertices.ranges (ranging_of f q.formula q.is q.proper.vertices) q.proper.ranges_small q.proper.ranges_some
+
+pub invariant_of-root : goal.invariant_of-root
+invariant_of-root c = let f = c.args.f.now in
+    let F = c.requires.formula in
+    let is = c.requires.is in
+    let proper = c.requires.proper in record {
+      short = rw c.instructions.ensures (omega (arith, instructions_long is.program, count_few f F is proper));
+      placing = subst (Placing (f.vertices.count - 1)) (sym c.places.ensures) (root_placing f F is proper);
+      kept = root_kept f F is proper c.start-facts.result.rows c.start-facts.ensures;
+      tight = root_tight f F is proper c.begin.new.near.rows c.begin.ensures;
     }
 
-pub slice_bounds-grow-end : goal.slice_bounds-grow-end
-slice_bounds-grow-end c = let a = c.args in sym (lent_long (formula_of a.kinds.now a.left.now a.right.now a.most.now a.o) c.requires.formula c.requires.is).0
-
-pub slice_bounds-grow-end-2 : goal.slice_bounds-grow-end-2
-slice_bounds-grow-end-2 c = let a = c.args in sym (lent_long (formula_of a.kinds.now a.left.now a.right.now a.most.now a.o) c.requires.formula c.requires.is).1
-
-pub slice_bounds-grow-end-3 : goal.slice_bounds-grow-end-3
-slice_bounds-grow-end-3 c = let a = c.args in sym (lent_long (formula_of a.kinds.now a.left.now a.right.now a.most.now a.o) c.requires.formula c.requires.is).2
-
-pub slice_bounds-grow-end-4 : goal.slice_bounds-grow-end-4
-slice_bounds-grow-end-4 c = let a = c.args in sym (lent_long (formula_of a.kinds.now a.left.now a.right.now a.most.now a.o) c.requires.formula c.requires.is).3
-
-pub grow-requires : goal.grow-requires
-grow-requires c = let a = c.args in
-    let f = formula_of a.kinds.now a.left.now a.right.now a.most.now a.o in
-    let q = c.requires in
-    let k = coded_of f q.formula q.is in
-    let l = lent_long f q.formula q.is in
-    let near = begun_of q.formula q.proper _ _ _ _ (ranging_of f q.formula q.is q.proper.vertices) c.begin.new.near c.begin.ensures.sized_2 c.begin.ensures.by_index in (
-      omega (arith, l.0, k.n_is, q.proper.short),
-      omega (arith, l.3),
-      root_ready _ _ _ _ _ _ _ k q.proper (a.o.vertices.count - 1) (omega (arith, q.is.vertices.count)) _ _ (c.start-facts.ensures.meaning _ (spanned_of f q.formula q.is q.proper.vertices)) near,
-    )
-
-pub returns : goal.returns
-returns c = let a = c.args in
-    let f = formula_of a.kinds.now a.left.now a.right.now a.most.now a.o in
-    λ F is proper. root_grows F _ _ _ _ _ _ (coded_of f F is) proper (f.vertices.count - 1) (length (take f.program.places f.program.most) - f.program.places) (omega (arith, is.vertices.count)) (omega (arith, (lent_long f F is).3)) _ _ _ (c.start-facts.ensures.meaning _ (spanned_of f F is proper.vertices)) (begun_of F proper _ _ _ _ (ranging_of f F is proper.vertices) c.begin.new.near c.begin.ensures.sized_2 c.begin.ensures.by_index) a.room.now a.spot _ _ (c.grow.ensures F (coded_of f F is).lent)
+pub returns-clause-grows : goal.returns-clause-grows
+returns-clause-grows c = λ F is proper.
+    let f = c.args.f.now in
+    let near = c.begin.new.near.rows in
+    let g = c.start-facts.result.rows in
+    let last = f.vertices.count - 1 in
+    let w : Lent F.program c.instructions.result.now c.places.result.now = rw (c.instructions.ensures, c.places.ensures) (lent_of f F is) in
+    let h : Grows _ (fast_at last F [] g near) _ = rw c.new.ensures at (c.grow.ensures.grows F w) in
+    grows_same (Here F.ranges) (grow_tree last_vertex F) (fast_at last F [] g near) (root_same f F is proper near c.begin.ensures g (facts_are f F is proper g c.start-facts.ensures)) _ _ h

@@ -1,16 +1,13 @@
-use mathlib.Core.Path.{◌≡◌, sym, ap, ap₂, ◌∙◌}
-use native.Mathlib.Omega.{arith}
-use lib.ListN.{length, take}
-use lib.Seq.{length-take-le}
-use Rattle.room.specs.Room.{put_one, puts}
+use mathlib.Core.Path.{ap, ◌∙◌}
 use Rattle.page_sheets.specs.Tree.{bytes_of}
+use Rattle.room.specs.Room.{Filling, puts}
+use Rattle.room.proofs.PutBytes.{stops}
 use Rattle.writer_trees.proofs.trees.put_cycle.Goals as goal
 
-pub slice_bounds-put_all-end : goal.slice_bounds-put_all-end
-slice_bounds-put_all-end c = sym (length-take-le c.args.count c.args.vertices (omega (arith, c.requires)))
-
-pub returns : goal.returns
+pub returns-in_err-put_all-clause-filled : goal.returns-in_err-put_all-clause-filled
 unfolding puts bytes_of
-returns c = let n : length (take c.args.count c.args.vertices) ≡ c.args.count = length-take-le c.args.count c.args.vertices (omega (arith, c.requires)) in
-    c.put_all.ensures
-    ∙ ap (λ f. puts f (take c.args.count c.args.vertices)) (c.put-two.ensures ∙ ap₂ put_one c.put-one.ensures (sym n))
+returns-in_err-put_all-clause-filled c = stops c.put_all.new.self c.from_residual.result _ c.args.walk.now c.from_residual.ensures.0 c.in_err-put_all.ensures.filled
+
+pub returns-clause-filled : goal.returns-clause-filled
+unfolding puts bytes_of
+returns-clause-filled c = c.put_all-2.ensures.filled ∙ ap (λ (f : Filling). puts f c.args.walk.now) c.in_ok-put_all.ensures.filled

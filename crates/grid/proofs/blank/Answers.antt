@@ -1,7 +1,0 @@
-use mathlib.Core.Path.{refl}
-use Rattle.page_walks.specs.Grid.{blank}
-use Rattle.grid.proofs.blank.Goals as goal
-
-pub returns : goal.returns
-unfolding blank
-returns c = refl

@@ -1,0 +1,9 @@
+-- A branch and its halves, which call each other: by the places left, and which of the two it is.
+use Rattle.std.proofs.Common.{◌+◌, ◌-◌, length}
+use Rattle.writer_trees.proofs.types.Ground.+branch_side.Given as goal
+
+abbrev pub decreases-branch : goal.decreases-branch
+decreases-branch l = let left = length l.self.now.places.now - length l.truths.now in left + left
+
+abbrev pub decreases-side : goal.decreases-side
+decreases-side l = let left = length l.self.now.places.now - length l.truths.now in left + left + 1
