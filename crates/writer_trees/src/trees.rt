@@ -1,6 +1,7 @@
 // The writer's rule at a node and below it. The closure of the facts goes down beside the grid, so that one sum tells whether a
 // fact closes a negative cycle; the search is made only where there is one, and the two are copied only where a branch follows.
-ghost use Rattle.std.specs.Prelude.{◌≤◌, ◌<◌, ◌≡◌, length};
+ghost use Rattle.std.specs.Prelude.{◌≤◌, ◌<◌, ◌≡◌, false, length, pos, ◌+ℤ◌};
+ghost use Rattle.std.specs.Int.Signed.{lt_z};
 ghost use Rattle.page_meaning.specs.Limits.{most_vertices};
 ghost use Rattle.page_formulas.specs.Formulas as written;
 ghost use Rattle.page_formulas.specs.ProperFormulas.{Proper};
@@ -41,7 +42,8 @@ fn put_cycle(sink: &mut Sink, walk: &[u8]) -> Result<(), Full>
 }
 
 impl<'a> Ground<'a> {
-    // Node 2, by the search among the facts and one more.
+    // Node 2, by the search among the facts and one more. Put into `side`, its grid would stand in the frame of each level.
+    #[inline(never)]
     fn put_search(&self, sink: &mut Sink, e: Edge) -> Result<(), Full>
         requires { Fact self.now.last e.from e.to e.weight }
         ensures same_reference { sink.new.room.ghost_name ≡ sink.old.room.ghost_name }
@@ -86,20 +88,34 @@ impl<'a> Ground<'a> {
                 if truths.count() == self.places.len() {
                     return Ok(());
                 }
-                let mut facts = *self.facts;
-                facts.enter(e);
-                let mut near = *self.near;
-                relax_in(&mut near, self.last + 1, e);
-                let below = Ground {
-                    instructions: self.instructions,
-                    places: self.places,
-                    last: self.last,
-                    facts: &facts,
-                    near: &near,
-                };
-                below.branch(sink, truths)
+                self.deeper(sink, truths, e)
             }
         }
+    }
+
+    // Where it is a branch: the grids of the facts and of their closure are copied, with the fact in them. A function by itself, so that
+    // no frame but a branch's holds them.
+    #[cycle(branch_side)]
+    #[inline(never)]
+    fn deeper(&self, sink: &mut Sink, truths: &Truths, e: Edge) -> Result<(), Full>
+        requires left { length truths.now < length self.now.places.now }
+        requires fact { Fact self.now.last e.from e.to e.weight }
+        requires calm { lt_z (weight self.now.near.now.rows e.to e.from +ℤ e.weight) (pos 0) ≡ false }
+        ensures same_reference { sink.new.room.ghost_name ≡ sink.old.room.ghost_name }
+        ensures grows { (F : written.Formula) → Lent F.program self.now.instructions.now self.now.places.now → known F.program truths.now ≡ open? → Grows (begun sink.old) (side_by F self.now truths.now e) (filling sink.new result) }
+    {
+        let mut facts = *self.facts;
+        facts.enter(e);
+        let mut near = *self.near;
+        relax_in(&mut near, self.last + 1, e);
+        let below = Ground {
+            instructions: self.instructions,
+            places: self.places,
+            last: self.last,
+            facts: &facts,
+            near: &near,
+        };
+        below.branch(sink, truths)
     }
 
     // Node 3, where the next place is open, and both its halves.

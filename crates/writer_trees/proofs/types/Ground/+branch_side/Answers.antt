@@ -81,18 +81,6 @@ side-returns-then-count-self-clause-grows t c = λ F lent.
     let x = a.self.now in
     grows_open _ _ (side_end F x lent a.truths.now a.e (sym c.contradicts.ensures ∙ c.if-contradicts.false) (sym (c.known-k.ensures F lent) ∙ ap three_of c.in-Open.is) (omega (arith, c.if-count-self.true, c.count.ensures))) _ _
 
-pub side-relax_in-requires-clause-summable : goal.side-relax_in-requires-clause-summable
-side-relax_in-requires-clause-summable t c = let x = c.args.self.now in record { some = omega arith; few = omega (arith, x.placing.few); within = simp add-one (tight_within (suc x.last) x.near.now.rows x.tight) }
-
-pub side-invariant_of-below : goal.side-invariant_of-below
-side-invariant_of-below t c = let a = c.args in
-    let x = a.self.now in record {
-      short = x.short;
-      placing = x.placing;
-      kept = subst Kept (sym c.enter.ensures) (kept_next x.last a.e c.requires.1 x.facts.now.rows x.kept);
-      tight = tight_next x.last x.placing.few x.near.now.rows x.near.now.sized x.tight a.e c.requires.1 (sym c.contradicts.ensures ∙ c.if-contradicts.false) _ (with_is x.last x.near.now.rows a.e _ c.relax_in.ensures);
-    }
-
 pub side-returns-in-Fails-clause-grows : goal.side-returns-in-Fails-clause-grows
 side-returns-in-Fails-clause-grows t c = λ F lent.
     let a = c.args in
@@ -104,6 +92,24 @@ side-returns-in-Passes-clause-grows t c = λ F lent.
     grows_open _ _ (side_true F a.self.now lent a.truths.now a.e (sym c.contradicts.ensures ∙ c.if-contradicts.false) (sym (c.known-k.ensures F lent) ∙ ap three_of c.in-Passes.is)) _ _
 
 pub side-returns-else-count-self-clause-grows : goal.side-returns-else-count-self-clause-grows
-side-returns-else-count-self-clause-grows t c = λ F lent.
+side-returns-else-count-self-clause-grows t c = λ F lent. c.deeper.ensures.grows F lent (sym (c.known-k.ensures F lent) ∙ ap three_of c.in-Open.is)
+
+-- ---- the branch below
+
+pub deeper-relax_in-requires-clause-summable : goal.deeper-relax_in-requires-clause-summable
+deeper-relax_in-requires-clause-summable t c = let x = c.args.self.now in record { some = omega arith; few = omega (arith, x.placing.few); within = simp add-one (tight_within (suc x.last) x.near.now.rows x.tight) }
+
+pub deeper-invariant_of-below : goal.deeper-invariant_of-below
+deeper-invariant_of-below t c = let a = c.args in
+    let x = a.self.now in record {
+      short = x.short;
+      placing = x.placing;
+      kept = subst Kept (sym c.enter.ensures) (kept_next x.last a.e c.requires.fact x.facts.now.rows x.kept);
+      tight = tight_next x.last x.placing.few x.near.now.rows x.near.now.sized x.tight a.e c.requires.fact c.requires.calm _ (with_is x.last x.near.now.rows a.e _ c.relax_in.ensures);
+    }
+
+pub deeper-returns-clause-grows : goal.deeper-returns-clause-grows
+deeper-returns-clause-grows t c = λ F lent unsure.
     let a = c.args in
-    side_calm F a.self.now lent a.truths.now a.e (sym c.contradicts.ensures ∙ c.if-contradicts.false) _ _ c.enter.ensures (with_is a.self.now.last a.self.now.near.now.rows a.e _ c.relax_in.ensures) _ _ (c.branch-below.ensures.grows F lent (sym (c.known-k.ensures F lent) ∙ ap three_of c.in-Open.is))
+    let x = a.self.now in
+    side_calm F x lent a.truths.now a.e c.requires.calm _ _ c.enter.ensures (with_is x.last x.near.now.rows a.e _ c.relax_in.ensures) _ _ (c.branch-below.ensures.grows F lent unsure)
