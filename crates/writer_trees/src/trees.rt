@@ -93,8 +93,8 @@ impl<'a> Ground<'a> {
         }
     }
 
-    // Where it is a branch: the grids of the facts and of their closure are copied, with the fact in them. A function by itself, so that
-    // no frame but a branch's holds them.
+    // A branch one fact deeper: both grids are copied, and the fact enters the copies. Put into `side`, they would stand in the frame of
+    // each leaf too.
     #[cycle(branch_side)]
     #[inline(never)]
     fn deeper(&self, sink: &mut Sink, truths: &Truths, e: Edge) -> Result<(), Full>

@@ -1,4 +1,4 @@
--- A branch and its halves, which call each other: by the places left, and by which of them calls which while as many are left.
+-- A branch, its halves and the branches below them, which call each other: by the places left, and where as many are left, by which calls which.
 use Rattle.std.proofs.Common.{◌+◌, ◌-◌, length}
 use Rattle.writer_trees.proofs.types.Ground.+branch_side.Given as goal
 
