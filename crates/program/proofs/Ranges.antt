@@ -8,7 +8,7 @@ use Rattle.page_formulas.specs.Vertices.{Ranges, present}
 use Rattle.page_formulas.specs.Vertices as V
 use Rattle.page_formulas.specs.Formulas as F
 use Rattle.page_formulas.specs.ProperFormulas.{SmallRange, Nonempty}
-use Rattle.program.specs.Meanings.{range_of, entry_of, zero_range}
+use Rattle.program.specs.Meanings.{range_of, entry_of}
 use Rattle.program.specs.Compiled.{Covers, Compiled, Spanned, SmallSpans, Ranging, Ranged}
 use Rattle.program.specs.Lent.{Flagged}
 use Rattle.program.specs.declared.types.Range.{Range}
@@ -34,30 +34,29 @@ module _ (ranges : List (Option Range)) (rs : Ranges) (c : Covers ranges rs) whe
   flagged = record { agree = go }
     where
       go : (v : ℕ) → is_some (get_or ranges v None) ≡ present rs v
-      go zero = ap is_some c.zero
+      go zero = c.zero
       go (suc k) = some_entry (get_or ranges (suc k) None) ∙ ap V.is_some (c.agree k)
 
-  -- what holds of each range holds of each vertex's, and of zero's
-  at_vertex : (Q : maybe.Option M.Range → Type 0) → Every Q rs → Q maybe.none → Q (maybe.some (range_of zero_range)) → (v : ℕ) (g : Range) → get_or ranges v None ≡ Some g → Q (maybe.some (range_of g))
-  at_vertex Q a n z zero g e = subst (λ o. Q (entry_of o)) (sym c.zero ∙ e) z
-  at_vertex Q a n z (suc k) g e = subst Q (covered k g e) (range_at Q rs a n k)
+  -- what holds of each range holds of each vertex's, but zero's
+  at_vertex : (Q : maybe.Option M.Range → Type 0) → Every Q rs → Q maybe.none → (v : ℕ) → 0 < v → (g : Range) → get_or ranges v None ≡ Some g → Q (maybe.some (range_of g))
+  at_vertex Q a n zero z g e = absurd (omega arith)
+  at_vertex Q a n (suc k) z g e = subst Q (covered k g e) (range_at Q rs a n k)
 
   module _ (small : Every SmallRange rs) where
     pub small_spans : SmallSpans ranges
     small_spans =
         record {
-          low = λ v g e. let b = at_vertex SmallRange small tt (omega arith, omega arith, omega arith, omega arith) v g e in record { high = omega (arith, b.2); low = omega (arith, b.3) };
-          high = λ v g e. let b = at_vertex SmallRange small tt (omega arith, omega arith, omega arith, omega arith) v g e in record { high = omega (arith, b.0); low = omega (arith, b.1) };
+          low = λ v z g e. let b = at_vertex SmallRange small tt v z g e in record { high = omega (arith, b.2); low = omega (arith, b.3) };
+          high = λ v z g e. let b = at_vertex SmallRange small tt v z g e in record { high = omega (arith, b.0); low = omega (arith, b.1) };
         }
 
 pub ranged : (rs : Ranges) (count : ℕ) (ranges : List (Option Range)) → Ranging rs count ranges → Every SmallRange rs → Every Nonempty rs → Ranged count ranges
 ranged rs count ranges r small some-value = record {
   some_vertex = omega (arith, r.count_is);
   few = omega (arith, r.count_is, r.spans.few);
-  zero = r.spans.covers.zero;
-  nonempty = at_vertex ranges rs r.spans.covers Nonempty some-value tt (omega arith);
-  small_lo = λ v g e. let b = at_vertex ranges rs r.spans.covers SmallRange small tt (omega arith, omega arith, omega arith, omega arith) v g e in (b.2, b.3);
-  small_hi = λ v g e. let b = at_vertex ranges rs r.spans.covers SmallRange small tt (omega arith, omega arith, omega arith, omega arith) v g e in (b.0, b.1);
+  nonempty = λ v z h g e. at_vertex ranges rs r.spans.covers Nonempty some-value tt v z g e;
+  small_lo = λ v z h g e. let b = at_vertex ranges rs r.spans.covers SmallRange small tt v z g e in (b.2, b.3);
+  small_hi = λ v z h g e. let b = at_vertex ranges rs r.spans.covers SmallRange small tt v z g e in (b.0, b.1);
 }
 
 -- ---- a compiled formula's

@@ -1,5 +1,5 @@
 -- The closure of the ranges in closed form, from the code's arrays: the laws of `RangeClosure` in page_sheets hold of it.
-use Prim.Native.Nat.{ℕ, suc, ◌+◌, ◌≤◌, ◌<◌}
+use Prim.Native.Nat.{ℕ, zero, suc, ◌+◌, ◌≤◌, ◌<◌}
 use mathlib.Core.Path.{◌≡◌, refl, ap, ◌∙◌, subst}
 use mathlib.Core.Logic.{◌≢◌}
 use mathlib.Core.List.{List, []}
@@ -56,20 +56,21 @@ module _ (count : ℕ) (ranges : List (Option Range)) (r : Ranged count ranges) 
   high v = (span ranges v).hi
 
   -- what holds of zero's range and of each that is there holds of what every vertex ranges over
-  each : (Q : Range → Type 0) → Q zero_range → ((v : ℕ) (g : Range) → get_or ranges v None ≡ Some g → Q g) → (v : ℕ) → Q (span ranges v)
-  each Q z h v = go (get_or ranges v None) refl
+  each : (Q : Range → Type 0) → Q zero_range → ((v : ℕ) → 0 < v → v < count → (g : Range) → get_or ranges v None ≡ Some g → Q g) → (v : ℕ) → v < count → Q (span ranges v)
+  each Q z h zero l = z
+  each Q z h (suc v) l = go (get_or ranges (suc v) None) refl
     where
-      go : (o : Option Range) → get_or ranges v None ≡ o → Q (unwrap_or o zero_range)
+      go : (o : Option Range) → get_or ranges (suc v) None ≡ o → Q (unwrap_or o zero_range)
       go None e = z
-      go (Some g) e = h v g e
+      go (Some g) e = h (suc v) (omega arith) l g e
 
-  small_low : (v : ℕ) → (up (low v) ≤ billion) × (dn (low v) ≤ billion)
+  small_low : (v : ℕ) → v < count → (up (low v) ≤ billion) × (dn (low v) ≤ billion)
   small_low = each (λ g. (up g.lo ≤ billion) × (dn g.lo ≤ billion)) (omega arith, omega arith) r.small_lo
 
-  small_high : (v : ℕ) → (up (high v) ≤ billion) × (dn (high v) ≤ billion)
+  small_high : (v : ℕ) → v < count → (up (high v) ≤ billion) × (dn (high v) ≤ billion)
   small_high = each (λ g. (up g.hi ≤ billion) × (dn g.hi ≤ billion)) (omega arith, omega arith) r.small_hi
 
-  order : (v : ℕ) → low v ≤ℤ high v
+  order : (v : ℕ) → v < count → low v ≤ℤ high v
   order = each (λ g. g.lo ≤ℤ g.hi) (omega ints) r.nonempty
 
   pub spread_same : (u v : ℕ) → u ≡ v → spread ranges u v ≡ pos 0
@@ -80,20 +81,20 @@ module _ (count : ℕ) (ranges : List (Option Range)) (r : Ranged count ranges) 
 
   module _ (near : Grid) (is : (u v : ℕ) → u < count → v < count → weight near u v ≡ spread ranges u v) where
     begun : Spread count low high (weight near)
-    begun = record { ordered = λ v h. order v; same = λ u v hu hv e. is u v hu hv ∙ spread_same u v e; other = λ u v hu hv f. is u v hu hv ∙ spread_other u v f }
+    begun = record { ordered = order; same = λ u v hu hv e. is u v hu hv ∙ spread_same u v e; other = λ u v hu hv f. is u v hu hv ∙ spread_other u v f }
 
     pub begun_least : Least count (weight near)
     begun_least = spread_least count low high (weight near) begun
 
     -- no entry is above a missing edge's weight
     pub begun_far : (u v : ℕ) → u < count → v < count → weight near u v ≤ℤ far
-    begun_far u v hu hv = let a = small_low u in let b = small_high v in omega (ints, spread_most count low high (weight near) begun u v hu hv, a.0, a.1, b.0, b.1, diff (high v) (low u))
+    begun_far u v hu hv = let a = small_low u hu in let b = small_high v hv in omega (ints, spread_most count low high (weight near) begun u v hu hv, a.0, a.1, b.0, b.1, diff (high v) (low u))
 
     -- ---- and the ranges
 
     module _ (rs : Ranges) (g : Ranging rs count ranges) where
       ends : EndsOf rs low high
-      ends = record { at_zero = (ap (λ o. (unwrap_or o zero_range).lo) r.zero, ap (λ o. (unwrap_or o zero_range).hi) r.zero); at = λ k. rw (← g.spans.covers.agree k) (go (get_or ranges (suc k) None)) }
+      ends = record { at_zero = (refl, refl); at = λ k. rw (← g.spans.covers.agree k) (go (get_or ranges (suc k) None)) }
         where
           go : (o : Option Range) → EndsAt (entry_of o) (unwrap_or o zero_range).lo (unwrap_or o zero_range).hi
           go None = (refl, refl)

@@ -1,11 +1,12 @@
 -- The closure of the ranges' facts in closed form: v is above u by no more than v's highest value and u's lowest are apart.
-use Rattle.std.specs.Prelude.{ℕ, cond, List, Option, None, unwrap_or, eqb, get_or, ℤ, pos, ◌-ℤ◌}
+use Rattle.std.specs.Prelude.{ℕ, zero, suc, cond, List, Option, None, unwrap_or, eqb, get_or, ℤ, pos, ◌-ℤ◌}
 use Rattle.program.specs.Meanings.{zero_range}
 use Rattle.program.specs.declared.types.Range.{Range}
 
--- what a vertex ranges over; 0 alone where there is no vertex
+-- what a vertex ranges over; 0 alone at vertex 0, and where there is no vertex
 abbrev pub span : List (Option Range) → ℕ → Range
-span ranges v = unwrap_or (get_or ranges v None) zero_range
+span ranges zero = zero_range
+span ranges (suc v) = unwrap_or (get_or ranges (suc v) None) zero_range
 
 -- from v's highest value and u's lowest
 abbrev pub apart : ℤ → ℤ → ℕ → ℕ → ℤ

@@ -1,4 +1,4 @@
-// Before any place is decided: the closure of the ranges' facts, which needs no search. A vertex that the formula lacks counts as 0.
+// Before any place is decided: the closure of the ranges' facts, which needs no search. Vertex 0 is 0, and a vertex that the formula lacks counts as 0.
 #![tactic(auto)]
 
 ghost use Rattle.std.specs.Prelude.{ℕ, ◌≤◌, ◌<◌, ◌≡◌, pos, ◌-ℤ◌, length, get_or};
@@ -13,12 +13,16 @@ use grid::Grid;
 use limits::VERTICES;
 use program::types::{Range, Vertices};
 
-// What a vertex ranges over.
+// What a vertex ranges over: vertex 0 over 0 alone, whatever is written for it.
 fn span(vertices: &Vertices, v: usize) -> Range
     requires { v < most_vertices }
     ensures { result ≡ span vertices.now.ranges v }
 {
-    vertices.ranges[v].unwrap_or(Range { lo: 0, hi: 0 })
+    let zero = Range { lo: 0, hi: 0 };
+    if v == 0 {
+        return zero;
+    }
+    vertices.ranges[v].unwrap_or(zero)
 }
 
 // The highest values of all vertices, so that no row has to look whether they are there.

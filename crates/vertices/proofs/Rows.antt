@@ -1,5 +1,5 @@
 -- A formula's vertices, one vertex number after another.
-use Rattle.std.proofs.Common.{◌≡◌, ℕ, zero, suc, ◌+◌, ◌<◌, Bool, not, ◌&&◌, List, [], ◌∷◌, ◌++◌, map, Option, Some, None, length, get_or, take, set, replicate, refl, sym, ap, ◌∙◌, subst, append_assoc, add-one, arith, length-append, length-set, get_or-set_other, get_or-set_same}
+use Rattle.std.proofs.Common.{◌≡◌, ℕ, zero, suc, ◌+◌, ◌<◌, Bool, not, ◌&&◌, List, [], ◌∷◌, ◌++◌, map, Option, Some, None, is_some, length, get_or, take, set, replicate, refl, sym, ap, ◌∙◌, subst, append_assoc, add-one, arith, length-append, length-set, get_or-set_other, get_or-set_same}
 use Rattle.std.proofs.Math.Option as maybe
 use mathlib.Core.List.{append-nil}
 use Rattle.std.proofs.Math.Seq.{get_or-append_seam, take-suc}
@@ -40,7 +40,7 @@ module _ (v : Vertices) (rs : Ranges) (s : Spans v rs) (o : Option Range) (long 
   spans_add =
       record {
         count = omega (arith, s.count, length-append rs (entry_of o ∷ []));
-        covers = record { zero = get_or-set_other v.ranges v.count 0 o None (λ e. absurd (omega (arith, s.count))) ∙ s.covers.zero; agree = λ k. entry_at k (ℕ_discrete k (length rs)) };
+        covers = record { zero = ap is_some (get_or-set_other v.ranges v.count 0 o None (λ e. absurd (omega (arith, s.count)))) ∙ s.covers.zero; agree = λ k. entry_at k (ℕ_discrete k (length rs)) };
       }
 
 -- ---- a row's

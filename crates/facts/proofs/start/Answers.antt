@@ -11,7 +11,7 @@ pub loop-v-init : goal.loop-v-init
 loop-v-init c = rw c.blank-g.ensures (search rules, search rules, blank_within most_vertices, λ rs s. refl)
 
 pub confine-requires : goal.confine-requires
-confine-requires c = (c.loop-v-test.true, wider _ (c.requires.low c.loop-v.v c.in-Some.r c.in-Some.is))
+confine-requires c = (c.loop-v-test.true, wider _ (c.requires.low c.loop-v.v c.loop-v.invariant.0 c.in-Some.r c.in-Some.is))
 
 pub loop-v-preserved : goal.loop-v-preserved
 loop-v-preserved c = let l = c.loop-v in
@@ -22,7 +22,7 @@ loop-v-preserved c = let l = c.loop-v in
           rw (w.g-is, w.confine.ensures) (
             omega arith,
             omega (arith, t),
-            confine_within most_vertices l.g.rows l.v (range_of r) l.invariant.2 (c.requires.low l.v r w.in-Some.is) (c.requires.high l.v r w.in-Some.is),
+            confine_within most_vertices l.g.rows l.v (range_of r) l.invariant.2 (c.requires.low l.v l.invariant.0 r w.in-Some.is) (c.requires.high l.v l.invariant.0 r w.in-Some.is),
             λ rs s. start_on rs c.args.vertices.now.ranges s l.g.rows l.v _ l.invariant.0 w.in-Some.is ∙ l.invariant.3 rs s,
           )
       | in_default w ↦ rw w.g-is (
