@@ -11,7 +11,7 @@ pub loop-v-init : goal.loop-v-init
 loop-v-init c = rw c.blank-g.ensures (search rules, search rules, blank_within most_vertices, λ rs s. refl)
 
 pub confine-requires : goal.confine-requires
-confine-requires c = (c.loop-v-test.true, wider _ (c.requires.low c.loop-v.v c.loop-v.invariant.0 c.in-Some.r c.in-Some.is))
+confine-requires c = (omega (arith, c.loop-v-test.true), wider _ (c.requires.low c.loop-v.v c.loop-v.invariant.0 c.in-Some.r c.in-Some.is))
 
 pub loop-v-preserved : goal.loop-v-preserved
 loop-v-preserved c = let l = c.loop-v in
