@@ -9,7 +9,7 @@ ghost use Rattle.question.specs.Held.{op_of};
 ghost use Rattle.program.specs.Meanings.{instr_of, place_of, term_of, instructions_of, places_of, Bare};
 ghost use Rattle.program.specs.Built.{Long, Room, Builds, Means};
 
-use crate::types::{Instruction, Place, Program, Term};
+use crate::types::{Instruction, NOWHERE, Place, Program, Term};
 use ints::weights::{difference, sum};
 use limits::{INSTRUCTIONS, PLACES};
 use question::types::Op;
@@ -19,15 +19,10 @@ impl Program {
     pub fn new() -> Program
         ensures { Means result [] × Long result }
     {
-        let nowhere = Place {
-            left: 0,
-            right: 0,
-            most: 0,
-        };
         Program {
             instructions: [Instruction::True; INSTRUCTIONS],
             length: 0,
-            places: [nowhere; PLACES],
+            places: [NOWHERE; PLACES],
             decisions: 0,
         }
     }
@@ -46,7 +41,7 @@ impl Program {
         &self.places[..self.decisions]
     }
 
-    // An instruction that is no place.
+    // An instruction that is no place. `emit_place` stands beside it: neither contract says the other, and one for both would be no plainer.
     pub fn emit(&mut self, i: Instruction)
         requires { Room self.old 1 0 × Bare i }
         ensures { Builds self.old self.new 1 0 (instr_of i ∷ []) }
@@ -65,7 +60,7 @@ impl Program {
         self.decisions += 1;
     }
 
-    // l ≤ r
+    // l ≤ r. `Room` stays a clause, here and below: its numbers differ at each call.
     pub fn at_most(&mut self, l: Term, r: Term)
         requires { Room self.old 1 1 }
         ensures { Builds self.old self.new 1 1 (place (at_most_place (term_of l) (term_of r)) ∷ []) }

@@ -22,7 +22,15 @@ pub struct Place {
     pub most: i64,
 }
 
-// The first `length` instructions are the program; the first `decisions` places are those of its place instructions, in order.
+// What stands where there is no place.
+pub const NOWHERE: Place = Place {
+    left: 0,
+    right: 0,
+    most: 0,
+};
+
+// The first `length` instructions are the program; the first `decisions` places are those of its place instructions, in order. Arrays and
+// counts, since nothing here takes memory from a heap.
 #[derive(Clone, Copy)]
 pub struct Program {
     pub instructions: [Instruction; INSTRUCTIONS],
@@ -47,7 +55,11 @@ pub struct Range {
     pub hi: i64,
 }
 
+// 0 alone: what vertex 0 ranges over, and what is taken where a vertex has no range.
+pub const ONLY_ZERO: Range = Range { lo: 0, hi: 0 };
+
 // The vertex numbers below `count`: what each ranges over, where the formula has it. Vertex 0 ranges over 0 alone.
+// An array and a count, as above.
 #[derive(Clone, Copy)]
 pub struct Vertices {
     pub count: usize,

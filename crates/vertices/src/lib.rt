@@ -10,7 +10,7 @@ ghost use Rattle.vertices.specs.Rows.{row_ranges, ranges_by, Widen, Widens};
 
 use ints::weights::wide;
 use limits::VERTICES;
-use program::types::{Range, Vertices};
+use program::types::{ONLY_ZERO, Range, Vertices};
 use question::types::Column;
 
 // What a column's vertex ranges over; a visible column has no vertex of the second row.
@@ -46,7 +46,7 @@ pub fn vertices(columns: &[Column], pairs: bool) -> Vertices
         count: 1,
         ranges: [None; VERTICES],
     };
-    all.ranges[0] = Some(Range { lo: 0, hi: 0 });
+    all.ranges[0] = Some(ONLY_ZERO);
     row(&mut all, columns, false);
     if pairs {
         row(&mut all, columns, true);
