@@ -7,7 +7,7 @@ ghost use Rattle.std.proofs.Common.{SFits};
 pub fn wide(x: i32) -> i64
     ensures { result ≡ x }
 {
-    x as i64
+    i64::from(x)
 }
 
 // The sum, wherever i64 can hold it.
