@@ -1,11 +1,8 @@
 -- The loop over a row's values: the range that the code looks up is the one that the definition means.
-use Rattle.std.specs.Prelude.{ℕ, List, ◌≡◌, ◌+◌, ◌-◌, ◌≤◌, map, take, drop, length, Result}
+use Rattle.std.specs.Prelude.{ℕ, List, ◌≡◌, ◌≤◌, map, take, length, Result}
 use mathlib.Core.Bool.{false}
 use mathlib.Core.Path.{sym, ap, ◌∙◌}
-use native.Mathlib.Omega.{arith}
-use lib.ListN.{get_or, length-map, length-drop, get_or-map}
-use Rattle.std.proofs.lemmas.List.{take-map, drop-map}
-use Rattle.question.specs.Parts.{ranges_at}
+use lib.ListN.{get_or, length-map, get_or-map}
 use lib.Seq.{length-take-le}
 use lib.IntN.{ℤ, pos}
 use Rattle.page_meaning.specs.Contents.{Range}
@@ -44,18 +41,3 @@ value_read {old = old} cs i vs fit t =
           ∙ sym (ap (λ (g : Range). int s 5 g.lo g.hi old.at) (range_of cs i))
           ∙ ap (λ (k : ℕ). int s 5 (get_or (ranges_in cs) k no_range).lo (get_or (ranges_in cs) k no_range).hi old.at) (sym k);
     }
-
--- the columns of the changed table, cut out as the code does
-module _ (cs : List Column) (first width : ℕ) where
-  as_many : (first + width) - first ≡ width
-  as_many = omega arith
-
-  pub part_ranges : ranges_in (take ((first + width) - first) (drop first cs)) ≡ ranges_at cs first width
-  part_ranges = simp (as_many, take-map, drop-map)
-
-  module _ (h : first + width ≤ length cs) where
-    pub part_length : length (take ((first + width) - first) (drop first cs)) ≡ width
-    part_length = rw as_many (length-take-le width (drop first cs) (simp length-drop (omega arith)))
-
-    pub ranges_length : length (ranges_at cs first width) ≡ width
-    ranges_length = ap length (sym part_ranges) ∙ simp length-map part_length

@@ -3,7 +3,6 @@ ghost use Rattle.std.specs.Prelude.{◌+◌, ◌≤◌, ◌≡◌, length};
 ghost use Rattle.page_meaning.specs.Limits.{most_columns};
 ghost use Rattle.page_questions.specs.Reader.{insert_at, delete_at, modify_at, change_at};
 ghost use Rattle.question.specs.Held.{ChangeHeld, change_of, verb_number};
-ghost use Rattle.question.specs.Parts.{ranges_at};
 ghost use Rattle.refusal.specs.Outcomes.{IfValue};
 ghost use Rattle.fields.specs.Steps.{Steps};
 ghost use Rattle.changes.specs.Changes.{ranges_in};
@@ -12,7 +11,7 @@ use crate::modes::KEPT;
 use crate::rows::NO_ROWS;
 use crate::table::Table;
 use fields::cursor::Cursor;
-use limits::{COLUMNS, PAST_ROWS};
+use limits::PAST_ROWS;
 use question::types::{Change, Column, Verb};
 use refusal::{Fault, Refusal};
 use tokens::condition::{always, condition};
@@ -72,22 +71,18 @@ impl<'a> Table<'a> {
     }
 }
 
-// A change of this kind. The changed table's columns are numbered from `first` on, `width` of them.
+// A change of this kind, of the table that has these columns, numbered from `first` on.
 pub fn change(
     from: &mut Cursor,
     verb: Verb,
-    columns: &[Column; COLUMNS],
+    columns: &[Column],
     first: usize,
-    width: usize,
 ) -> Result<Change, Refusal>
-    requires { first + width ≤ most_columns }
-    ensures meaning { Steps (change_of width) (λ s p. change_at s (verb_number verb) first (ranges_at columns.now first width) p) from.old result from.new }
+    requires { first + length columns.now ≤ most_columns }
+    ensures meaning { Steps (change_of (length columns.now)) (λ s p. change_at s (verb_number verb) first (ranges_in columns.now) p) from.old result from.new }
     ensures held { IfValue result ChangeHeld }
 {
-    let table = Table {
-        columns: &columns[first..first + width],
-        first,
-    };
+    let table = Table { columns, first };
     match verb {
         Verb::Insert => table.insert(from),
         Verb::Delete => table.delete(from),

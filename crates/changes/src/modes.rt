@@ -20,7 +20,7 @@ fn no_column(from: &mut Cursor) -> Result<u8, Refusal>
     from.byte(Fault::Code, NONE, NONE + 1)
 }
 
-// A mode, its column and its constant.
+// A mode, its column and its constant. Its byte becomes a mode here: nothing else says which it is.
 fn mode(from: &mut Cursor, names: Names) -> Result<Mode, Refusal>
     ensures { Steps mode_of (λ s p. mode_at s names.low names.high p) from.old result from.new }
 {
@@ -50,9 +50,8 @@ impl<'a> Table<'a> {
         ensures { Steps (λ ms. map setting_of (take (length self.now.columns.now) ms)) (λ s p. many (λ ms q. mode_at s self.now.first (self.now.first + length self.now.columns.now) q) (length self.now.columns.now) [] p) from.old result from.new }
     {
         let mut settings = KEPT;
-        for i in 0..self.columns.len() {
-            let mode = mode(from, self.names())?;
-            settings[i] = Setting { mode };
+        for setting in settings[..self.columns.len()].iter_mut() {
+            setting.mode = mode(from, self.names())?;
         }
         Ok(settings)
     }

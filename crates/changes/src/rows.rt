@@ -33,8 +33,8 @@ impl<'a> Table<'a> {
         ensures { Steps (λ rs. map (row_of (length self.now.columns.now)) (take count rs)) (λ s p. many (λ rs q. row_at s (ranges_in self.now.columns.now) q) count [] p) from.old result from.new }
     {
         let mut rows = NO_ROWS;
-        for i in 0..count {
-            rows[i] = self.row(from)?;
+        for row in rows[..count].iter_mut() {
+            *row = self.row(from)?;
         }
         Ok(rows)
     }

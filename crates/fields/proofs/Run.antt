@@ -1,7 +1,9 @@
 -- Fields of one sort, one after another into an array: the laws of the loops that read them.
-use Rattle.std.specs.Prelude.{ℕ, List, [], ◌≡◌, ◌+◌, ◌≤◌, ◌<◌, Result, Ok, Err, map, take, length}
+use Rattle.std.specs.Prelude.{ℕ, List, [], ◌≡◌, ◌+◌, ◌≤◌, ◌<◌, ◌++◌, Result, Ok, Err, map, take, length}
 use Rattle.std.specs.Result.{IsErrAnd}
 use Rattle.std.proofs.lemmas.Result.{err_from_is_err_and}
+use Rattle.std.proofs.lemmas.List.{take-append-le}
+use native.Mathlib.Omega.{arith}
 use mathlib.Core.Path.{refl}
 use lib.ListN.{set}
 use Rattle.page_numbers.specs.Outcome.{Outcome}
@@ -34,3 +36,11 @@ module _ {A B : Type 0} {o : List ℕ → List B → ℕ → Outcome (At B)} {g 
 
   pub all_read : {start now : Cursor} {xs : List A} {i : ℕ} → Run o g size n start now xs i → n ≤ i → Steps (λ xs. map g (take n xs)) (λ s q. many (o s) n [] q) start (Ok xs) now
   all_read run l = record { same = run.same; meaning = going_end _ _ _ _ _ _ _ _ run.going l }
+
+-- the same where the fields stand at an array's front
+pub front_read : {A B : Type 0} {o : List ℕ → List B → ℕ → Outcome (At B)} {g : A → B} {n : ℕ} {start now : Cursor} {xs : List A} {i : ℕ} (ys : List A) → Run o g n n start now xs i → n ≤ i
+    → Steps (λ xs. map g (take n xs)) (λ s q. many (o s) n [] q) start (Ok (xs ++ ys)) now
+front_read {n = n} {xs = xs} ys run l =
+    let s = all_read run l in
+    let fit : n ≤ length xs = omega (arith, run.going.sized) in
+    record { same = s.same; meaning = rw (take-append-le n xs ys fit) s.meaning }

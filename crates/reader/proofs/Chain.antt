@@ -1,10 +1,12 @@
 -- From the head to the end: what the fields that were read make of the rest.
-use Rattle.std.specs.Prelude.{ℕ, zero, suc, ◌+◌, ◌≤◌, ◌<◌, ◌≡◌, Bool, true, false, cond, leb, length, List, [], ◌∷◌, map, take, drop, get_or, Result, Ok, Err}
+use Rattle.std.specs.Prelude.{ℕ, zero, suc, ◌+◌, ◌-◌, ◌≤◌, ◌<◌, ◌≡◌, Bool, true, false, cond, leb, length, List, [], ◌∷◌, map, take, drop, get_or, Result, Ok, Err}
 use Rattle.std.specs.Result.{IsErrAnd}
 use Rattle.std.proofs.lemmas.Result.{err_from_is_err_and}
 use mathlib.Core.Path.{refl, sym, ap, ◌∙◌}
 use native.Mathlib.Omega.{arith}
-use lib.Seq.{take-take}
+use lib.Seq.{take-take, length-take-le}
+use lib.ListN.{length-drop}
+use Rattle.std.proofs.lemmas.List.{take-map, drop-map}
 use Rattle.page_numbers.specs.Outcome.{Outcome, good, refused}
 use borrow.Author.Tests.{lt-ltb, le-ltb}
 use Rattle.page_meaning.specs.Contents as M
@@ -28,6 +30,7 @@ use Rattle.question.specs.declared.types.Question.{Question}
 use Rattle.fields.specs.Steps.{Steps}
 use Rattle.fields.specs.declared.cursor.Cursor.{Cursor}
 use Rattle.fields.proofs.Chain.{Ends, ends_after}
+use Rattle.changes.specs.Changes.{ranges_in}
 use Rattle.tables.specs.Shapes.{some}
 use Rattle.reader.specs.Head.{head}
 
@@ -48,6 +51,22 @@ window width zero n l h = take-take width n l (omega arith)
 window width (suc first) zero l h = absurd (omega arith)
 window width (suc first) (suc n) [] h = refl
 window width (suc first) (suc n) (a ∷ l) h = window width first n l (omega arith)
+
+-- the changed table's columns, cut out as the code does
+module _ (h : Shape) (columns : List Column) (l : h.first + h.width ≤ length columns) where
+  as_many : (h.first + h.width) - h.first ≡ h.width
+  as_many = omega arith
+
+  cut_length : length (take ((h.first + h.width) - h.first) (drop h.first columns)) ≡ h.width
+  cut_length = rw as_many (length-take-le h.width (drop h.first columns) (simp length-drop (omega arith)))
+
+  cut_ranges : ranges_in (take ((h.first + h.width) - h.first) (drop h.first columns)) ≡ ranges_at columns h.first h.width
+  cut_ranges = simp (as_many, take-map, drop-map)
+
+  pub cut_change : (kind : ℕ) {at new : Cursor} {c : Result Change Refusal}
+      → Steps (change_of (length (take ((h.first + h.width) - h.first) (drop h.first columns)))) (λ s p. change_at s kind h.first (ranges_in (take ((h.first + h.width) - h.first) (drop h.first columns))) p) at c new
+      → Steps (change_of h.width) (λ s p. change_at s kind h.first (ranges_at columns h.first h.width) p) at c new
+  cut_change kind t = simp (cut_length, cut_ranges) at t
 
 module _ (h : Shape) (held : ShapeHeld h) (columns : List Column) where
   table_is : L.table_of (widths_of h) h.changed (L.ranges_of (map column_of (take h.total columns))) ≡ ranges_at columns h.first h.width

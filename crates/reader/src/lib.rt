@@ -18,7 +18,7 @@ use tables::columns::{columns, some_visible};
 use tables::widths::{shape, widths};
 use tokens::condition::condition;
 
-// The mark, and the version: by which rule the question is meant.
+// The mark, and the version: by which rule the question is meant. Its number becomes a rule here: nothing else says which it is.
 fn head(s: &[u8]) -> Result<Version, Refusal>
     ensures { outcome_of version_of result ≡ head s.now }
 {
@@ -38,7 +38,7 @@ fn head(s: &[u8]) -> Result<Version, Refusal>
     }
 }
 
-// The kind of change.
+// The kind of change, from its byte: nothing else says which it is.
 fn verb(from: &mut Cursor) -> Result<Verb, Refusal>
     ensures { Steps verb_number (λ s p. byte s 4 1 4 p) from.old result from.new }
 {
@@ -60,11 +60,12 @@ pub fn read(s: &[u8]) -> Result<Question, Refusal>
     let changed = from.byte(Fault::Code, 0, tables)? as usize;
     let shape = shape(widths(&mut from, tables)?, tables, changed);
     let columns = columns(&mut from, shape.total)?;
-    if !some_visible(&columns, shape.total) {
+    if !some_visible(&columns[..shape.total]) {
         return Err(Fault::Hidden.at(from.at));
     }
     let condition = condition(&mut from, 0, shape.total)?;
-    let change = change(&mut from, verb, &columns, shape.first, shape.width)?;
+    let table = &columns[shape.first..shape.first + shape.width];
+    let change = change(&mut from, verb, table, shape.first)?;
     if from.at < from.bytes.len() {
         return Err(Fault::Long.at(from.at));
     }

@@ -1,5 +1,5 @@
 // Columns: lo, hi, visible.
-ghost use Rattle.std.specs.Prelude.{◌≤◌, ◌<◌, ◌≡◌, [], map, length, take};
+ghost use Rattle.std.specs.Prelude.{◌≤◌, ◌≡◌, [], map, take};
 ghost use Rattle.page_meaning.specs.Limits.{most_columns};
 ghost use Rattle.page_questions.specs.Layout.{visible_from};
 ghost use Rattle.page_questions.specs.Reader.{column_at, many};
@@ -12,7 +12,7 @@ use limits::COLUMNS;
 use question::types::Column;
 use refusal::{Fault, Refusal};
 
-// A column: lo, hi from lo on, and whether it is visible.
+// A column: lo, hi from lo on, and whether it is visible, which the byte 1 says.
 fn column(from: &mut Cursor) -> Result<Column, Refusal>
     ensures { Steps column_of column_at from.old result from.new }
 {
@@ -36,16 +36,15 @@ pub fn columns(from: &mut Cursor, n: usize) -> Result<[Column; COLUMNS], Refusal
         hi: 0,
         visible: false,
     }; COLUMNS];
-    for i in 0..n {
-        columns[i] = column(from)?;
+    for place in columns[..n].iter_mut() {
+        *place = column(from)?;
     }
     Ok(columns)
 }
 
-// Is one of the first n columns visible?
-pub fn some_visible(columns: &[Column; COLUMNS], n: usize) -> bool
-    requires { n ≤ most_columns }
-    ensures { result ≡ some (visible_from 0 (map column_of (take n columns.now))) }
+// Is a column visible?
+pub fn some_visible(columns: &[Column]) -> bool
+    ensures { result ≡ some (visible_from 0 (map column_of columns.now)) }
 {
-    columns[..n].iter().any(|c| c.visible)
+    columns.iter().any(|c| c.visible)
 }

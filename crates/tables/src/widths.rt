@@ -21,6 +21,7 @@ pub fn widths(from: &mut Cursor, n: usize) -> Result<[usize; TABLES], Refusal>
 {
     let mut widths = [0; TABLES];
     let mut total = 0;
+    // by an index: the total beside is that of the first i
     for i in 0..n {
         let width = from.byte(Fault::Code, 1, PAST_COLUMNS - total)? as usize;
         widths[i] = width;

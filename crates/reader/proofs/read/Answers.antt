@@ -1,4 +1,4 @@
-use Rattle.std.proofs.Common.{Err, Ok, arith}
+use Rattle.std.proofs.Common.{Err, Ok, arith, rules}
 use Rattle.page_meaning.specs.Contents.{Question}
 use Rattle.question.specs.Held.{verb_number, question_of, question_with}
 use Rattle.question.proofs.Guaranteed.{held_of}
@@ -7,7 +7,7 @@ use mathlib.Core.Path.{refl, sym, ◌∙◌}
 use Rattle.page_questions.specs.Reader.{from_tables, from_kind, from_changed, from_widths, from_columns, from_condition, from_change}
 use Rattle.fields.proofs.Chain.{ends_after, ends_at}
 use Rattle.page_questions.proofs.FieldLaws.{is_within}
-use Rattle.reader.proofs.Chain.{from_fields, from_hidden, from_shown, from_end, from_more, with_columns, with_condition, with_change, reads_refused, head_refused, head_good, after_head, from_front}
+use Rattle.reader.proofs.Chain.{from_fields, from_hidden, from_shown, from_end, from_more, with_columns, with_condition, with_change, cut_change, reads_refused, head_refused, head_good, after_head, from_front}
 use Rattle.reader.proofs.read.Goals as goal
 
 pub returns-in_err-version : goal.returns-in_err-version
@@ -80,7 +80,7 @@ returns-in_err-change c = let h = c.shape-shape.result in
     (ends_after _ (with_columns h e.shape_held c.in_ok-columns.ensures)
     (from_shown h (verb_number c.in_ok-verb.verb) c.in_ok-columns.columns (sym c.if-not-some_visible.ensures)
     (ends_after _ (with_condition h e.shape_held c.in_ok-condition.ensures.meaning)
-    (ends_at _ (with_change h e.shape_held (verb_number c.in_ok-verb.verb) c.in_ok-columns.columns c.in_err-change.ensures.meaning)))))))
+    (ends_at _ (with_change h e.shape_held (verb_number c.in_ok-verb.verb) c.in_ok-columns.columns (cut_change h c.in_ok-columns.columns (omega arith) (verb_number c.in_ok-verb.verb) c.in_err-change.ensures.meaning))))))))
 
 pub returns-then-from : goal.returns-then-from
 returns-then-from c = let h = c.shape-shape.result in
@@ -89,7 +89,7 @@ returns-then-from c = let h = c.shape-shape.result in
       meaning =
           after_head question_of {r = Err c.at-then-from.result} c.in_ok-version.ensures refl refl
           (from_fields h e.shape_held c.in_ok-columns.columns c.in_ok-tables.ensures c.in_ok-verb.ensures c.in_ok-changed.ensures c.in_ok-widths.ensures.meaning e.result_value e.changed_value
-          c.in_ok-columns.ensures (sym c.if-not-some_visible.ensures) c.in_ok-condition.ensures.meaning c.in_ok-change.ensures.meaning
+          c.in_ok-columns.ensures (sym c.if-not-some_visible.ensures) c.in_ok-condition.ensures.meaning (cut_change h c.in_ok-columns.columns (omega arith) (verb_number c.in_ok-verb.verb) c.in_ok-change.ensures.meaning)
           (from_more _ c.if-from.true (rw c.at-then-from.ensures refl)));
       held = tt;
     }
@@ -107,7 +107,7 @@ invariant_of-result c = let h = c.shape-shape.result in
           accepted c.args.s.now q
           (sym (after_head (λ (x : Question). x) {r = Ok q} c.in_ok-version.ensures refl refl
           (from_fields h e.shape_held c.in_ok-columns.columns c.in_ok-tables.ensures c.in_ok-verb.ensures c.in_ok-changed.ensures c.in_ok-widths.ensures.meaning e.result_value e.changed_value
-          c.in_ok-columns.ensures (sym c.if-not-some_visible.ensures) c.in_ok-condition.ensures.meaning c.in_ok-change.ensures.meaning
+          c.in_ok-columns.ensures (sym c.if-not-some_visible.ensures) c.in_ok-condition.ensures.meaning (cut_change h c.in_ok-columns.columns (omega arith) (verb_number c.in_ok-verb.verb) c.in_ok-change.ensures.meaning)
           (from_end c.in_ok-version.version h c.in_ok-columns.columns c.in_ok-condition.condition c.in_ok-change.change refl (head_good _ _ c.in_ok-version.ensures).1 same c.if-from.false))));
     }
 
@@ -121,7 +121,7 @@ returns c = let h = c.shape-shape.result in
       meaning =
           after_head (λ (x : Question). x) {r = Ok q} c.in_ok-version.ensures refl refl
           (from_fields h e.shape_held c.in_ok-columns.columns c.in_ok-tables.ensures c.in_ok-verb.ensures c.in_ok-changed.ensures c.in_ok-widths.ensures.meaning e.result_value e.changed_value
-          c.in_ok-columns.ensures (sym c.if-not-some_visible.ensures) c.in_ok-condition.ensures.meaning c.in_ok-change.ensures.meaning
+          c.in_ok-columns.ensures (sym c.if-not-some_visible.ensures) c.in_ok-condition.ensures.meaning (cut_change h c.in_ok-columns.columns (omega arith) (verb_number c.in_ok-verb.verb) c.in_ok-change.ensures.meaning)
           (from_end c.in_ok-version.version h c.in_ok-columns.columns c.in_ok-condition.condition c.in_ok-change.change refl (head_good _ _ c.in_ok-version.ensures).1 same c.if-from.false));
       held = held_of _;
     }

@@ -1,15 +1,12 @@
-use mathlib.Core.Path.{refl}
-use Rattle.fields.proofs.Run.{none_read, one_read, one_refused, all_read}
+use native.Mathlib.Omega.{arith}
+use Rattle.fields.proofs.Run.{one_read, one_refused, front_read}
 use Rattle.changes.proofs.table.Table.rows.Goals as goal
 
-pub loop-i-init : goal.loop-i-init
-loop-i-init c = none_read refl
+pub loop-row-preserved : goal.loop-row-preserved
+loop-row-preserved c = one_read c.loop-row.invariant (omega (arith, c.loop-row.invariant.going.sized, c.loop-row.auto.row-items)) (omega arith) c.in_ok-row.ensures
 
-pub loop-i-preserved : goal.loop-i-preserved
-loop-i-preserved c = one_read c.loop-i.invariant c.loop-i-test.true c.requires c.in_ok-rows.ensures
-
-pub returns-in_err-rows : goal.returns-in_err-rows
-returns-in_err-rows c = one_refused c.loop-i.invariant c.loop-i-test.true c.from_residual.ensures.1 c.in_err-rows.ensures
+pub returns-in_err-row : goal.returns-in_err-row
+returns-in_err-row c = one_refused c.loop-row.invariant (omega (arith, c.loop-row.invariant.going.sized, c.loop-row.auto.row-items)) c.from_residual.ensures.1 c.in_err-row.ensures
 
 pub returns : goal.returns
-returns c = all_read c.loop-i.invariant c.loop-i-test.false
+returns c = front_read _ c.loop-row.invariant (omega (arith, c.loop-row.invariant.going.sized, c.loop-row.auto.row-items))
