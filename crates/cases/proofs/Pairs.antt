@@ -1,5 +1,5 @@
 -- Digits in pairs: what the first pairs mean stands in the room, what the rest means is still to come.
-use Prim.Native.Nat.{ℕ, suc, ◌+◌, ◌*◌, ◌/◌, ◌<◌, ◌≤◌}
+use Prim.Native.Nat.{ℕ, zero, suc, ◌+◌, ◌*◌, ◌/◌, ◌<◌, ◌≤◌}
 use mathlib.Core.Path.{◌≡◌, refl, sym, ap, subst, ◌∙◌}
 use mathlib.Core.Bool.{Bool, true, false}
 use mathlib.Core.List.{List, [], ◌∷◌, ◌++◌, append-nil}
@@ -12,6 +12,7 @@ use lib.Seq.{drop-cons, drop-drop, drop-set-lt, take-suc-set, append_snoc, lengt
 use Rattle.cases.specs.Hex.{byte_of, before, bytes_of_hex}
 use Rattle.cases.specs.Decoding.{Decodes}
 use Rattle.std.specs.Prelude as std
+use Rattle.std.specs.Simd.{first_chunks}
 use Rattle.std.proofs.lemmas.Bool.{lt-ltb, le-ltb}
 
 -- some bytes before others
@@ -105,3 +106,17 @@ module _ (s old : List ℕ) (i : ℕ) (room : List ℕ) (h : Stage s old i room)
           rest = drop-set-lt (i + 1) room i x (omega arith) ∙ sym (drop-drop 1 i room) ∙ ap (drop 1) h.rest ∙ drop-drop 1 i old;
           means = rw (done) (after_one (take i room) x to-come) ∙ ap (after (take i room)) (sym some_more) ∙ h.means;
         }
+
+-- pair i is the digits 2i and 2i + 1
+chunk : (k i : ℕ) (s : List ℕ) → i < k → 2 * k ≤ length s → get_or (first_chunks 2 k s) i [] ≡ get_or s (2 * i) 0 ∷ get_or s (2 * i + 1) 0 ∷ []
+chunk zero i s h e = absurd (omega arith)
+chunk (suc k) i [] h e = absurd (omega arith)
+chunk (suc k) i (high ∷ []) h e = absurd (omega arith)
+chunk (suc k) zero (high ∷ low ∷ rest) h e = refl
+chunk (suc k) (suc i) (high ∷ low ∷ rest) h e =
+    let second : 2 * suc i + 1 ≡ suc (suc (2 * i + 1)) = omega arith in
+    let first : 2 * suc i ≡ suc (suc (2 * i)) = omega arith in
+    rw (second, first) (chunk k i rest (omega arith) (omega arith))
+
+pub pair_is : (s : List ℕ) (pairs : List (List ℕ)) (i : ℕ) → pairs ≡ first_chunks 2 (length s / 2) s → i < length s / 2 → get_or pairs i [] ≡ get_or s (2 * i) 0 ∷ get_or s (2 * i + 1) 0 ∷ []
+pair_is s pairs i e h = rw e (chunk (length s / 2) i s h (omega arith))

@@ -51,15 +51,15 @@ pub fn decode(digits: &[u8], room: &mut [u8]) -> Option<usize>
     ensures decodes { Decodes (bytes_of_hex digits.now) result room.old room.new }
     ensures fits { IfSome result (λ n. n ≤ length room.new) }
 {
-    let n = digits.len() / 2;
-    if digits.len() != 2 * n {
+    let (pairs, rest) = digits.as_chunks::<2>();
+    if !rest.is_empty() {
         return None;
     }
-    if n > room.len() {
+    if pairs.len() > room.len() {
         return None;
     }
-    for i in 0..n {
-        room[i] = byte(digits[2 * i], digits[2 * i + 1])?;
+    for (i, [high, low]) in pairs.iter().enumerate() {
+        room[i] = byte(*high, *low)?;
     }
-    Some(n)
+    Some(pairs.len())
 }
