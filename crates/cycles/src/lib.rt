@@ -25,12 +25,7 @@ fn first_closing(edges: &[i64; VERTICES], on: &[i64; VERTICES], n: usize, sum: i
     requires on_within { RowWithin wide n on.now }
     ensures { FirstIs (λ u. lt_z ((sum +ℤ get_or edges.now u (pos 0)) +ℤ get_or on.now u (pos 0)) (pos 0)) n result }
 {
-    for u in 0..n {
-        if sum + edges[u] + on[u] < 0 {
-            return Some(u);
-        }
-    }
-    None
+    (0..n).find(|&u| sum + edges[u] + on[u] < 0)
 }
 
 // How many vertices a negative closed walk has, and the first.
@@ -46,7 +41,7 @@ fn shortest(walks: &Walks) -> Option<Opening>
 {
     let mut row = [0i64; VERTICES];
     let mut found = None;
-    // two loops in one function, left at once: the form that docs/DECISIONS.md, D9.1, settles
+    // two loops in one function, left at once: the form that docs/DECISIONS.md, D9.1, settles; both numbers are what is found
     'search: for k in 0..walks.n {
         for s in 0..walks.n {
             if walks.closing_sum(&mut row, s, k) < 0 {
@@ -69,10 +64,12 @@ fn trace(walks: &Walks, opening: Opening) -> Cycle
 {
     let Opening { count, start } = opening;
     let mut vertices = [0u8; VERTICES];
+    // a vertex is below 25, so it is a byte; and so is each next one
     vertices[0] = start as u8;
     let mut at = start;
     let mut sum: i64 = 0;
     let mut row = [0i64; VERTICES];
+    // by an index: it also says how many edges are left
     for i in 1..count {
         walks.sums_back(&mut row, start, count - 1 - i);
         let next = first_closing(&walks.grid.rows[at], &row, walks.n, sum).unwrap();

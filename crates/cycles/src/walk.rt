@@ -6,7 +6,7 @@ ghost use Rattle.page_meaning.specs.Limits.{most_vertices};
 
 use limits::VERTICES;
 
-// Its vertices are the first count of the array.
+// Its vertices are the first count of the array: an array and a count, since nothing here takes memory from a heap.
 #[derive(Clone, Copy)]
 pub struct Cycle {
     pub count: usize,
