@@ -12,6 +12,17 @@ const LIST: [u8; 85] = *b"\x56\x55\x51\x01\x00\x02\x00\x00\x02\x02\
     \x03\x01\x03\x00\x03\x00\x00\x00\x00\x01\x04\x01\xff\x0a\x00\x00\x00\x02\
     \x00\x00\x00\x00\x00\x00\x00\x00\x00\x00\x00\x00\x00\x00\x00\x00\x00\x00\x00\x00\x00";
 
+// FORMAT 3.2: the numbers of the versions and of the kinds of change. Nothing else here writes a question.
+const ONE: u8 = 1;
+
+const TWO: u8 = 2;
+
+const INSERT: u8 = 1;
+
+const DELETE: u8 = 2;
+
+const MODIFY: u8 = 3;
+
 // The list with a change of KEY after it; its version stands at byte 3, its kind at byte 6.
 pub fn change_in(
     rt: &impl Print,
@@ -22,13 +33,13 @@ pub fn change_in(
 ) -> io::Result<()> {
     let mut question = LIST;
     question[3] = match version {
-        Version::One => 1,
-        Version::Two => 2,
+        Version::One => ONE,
+        Version::Two => TWO,
     };
     question[6] = match verb {
-        Verb::Insert => 1,
-        Verb::Delete => 2,
-        Verb::Modify => 3,
+        Verb::Insert => INSERT,
+        Verb::Delete => DELETE,
+        Verb::Modify => MODIFY,
     };
     let Some(place) = question[64..].get_mut(..change.len()) else {
         return Ok(());
