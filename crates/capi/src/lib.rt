@@ -20,6 +20,7 @@ fn leave(told: Result<Sheet, Refusal>, verdict: &mut u8, place: &mut u64) -> u8
     match told {
         Ok(sheet) => {
             *verdict = sheet.verdict.byte();
+            // a usize has no more bits than a u64
             *place = sheet.length as u64;
             0
         }

@@ -5,6 +5,7 @@ use question::types::{Asked, Verb};
 use std::io;
 use std::ops::Range;
 
+// The columns' numbers, which are what is printed.
 fn numbers(rt: &impl Print, columns: usize) -> io::Result<()> {
     rt.print("column    ")?;
     for i in 0..columns {

@@ -10,13 +10,15 @@ ghost use Rattle.grid.specs.Edges.{Summable};
 
 use grid::{Edge, Grid, lesser};
 
-// One row of the least sums with a new edge: reach is the sum of the way to the edge and along it, on the row of the way on.
+// One row of the least sums with a new edge: reach is the sum of the way to the edge and along it, on the row of the way on. How much of
+// the row is within bounds stays a clause, as in sums and cycles: n differs with the call, and a row doesn't know it.
 pub fn relax_row(row: &mut [i64], on: &[i64], n: usize, reach: i64)
     requires lengths { (n ≤ length row.old) × (n ≤ length on.now) }
     requires bounded { Bounded wide reach }
     requires within { RowWithin wide n on.now }
     ensures { row.new ≡ filled (λ v. min_z (get_or row.old v (pos 0)) (reach +ℤ get_or on.now v (pos 0))) n row.old }
 {
+    // by an index: two rows are read at it
     for v in 0..n {
         let round = reach + on[v];
         row[v] = lesser(row[v], round);
@@ -33,6 +35,7 @@ pub fn relax_in(near: &mut Grid, n: usize, e: Edge)
 {
     let on = near.rows[e.to];
     let rows = &mut near.rows;
+    // by an index: the definition numbers the rows
     for u in 0..n {
         let reach = rows[u][e.from] + e.weight;
         if reach < rows[u][e.to] {

@@ -16,7 +16,8 @@ use pieces::differences::differs;
 use pieces::ranges::bounded_all;
 use program::types::{Instruction, Program};
 
-// M
+// M. `in_range` stands beside it, as `lasts` beside `stays`: each is a word of the table, and none says another. `Legible` stays a clause: it
+// holds the question itself, which a ghost field may not.
 pub fn moves(into: &mut Program, d: &Context, second: bool)
     requires { Room into.old moving_cost.instructions moving_cost.places × Legible d.now }
     ensures { (Q : meant.Question) → Under Q d.now → Builds into.old into.new moving_cost.instructions moving_cost.places ((words_of Q d.now).M (rows_of Q d.now.pairs second)) }

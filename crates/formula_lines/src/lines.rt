@@ -105,7 +105,7 @@ const ONE_CHOSEN: Line = Line {
     parts: &[C1, C2, M1, NOT_D2, F1, NEW_OLD],
 };
 
-// A modify's lines for asked 1; only version 2 has the fourth.
+// A modify's lines for asked 1; only version 2 has the fourth. The table numbers its lines, so a number becomes a line here and below.
 fn of_one(i: usize) -> Line
     ensures { (v : meant.Version) → Numbered v Verb.Modify true i → Tabled result (line_for v Verb.Modify true i) }
 {

@@ -54,7 +54,7 @@ impl Grid {
         self.rows[from][to]
     }
 
-    // One more fact: the grid with one tightened edge.
+    // One more fact: the grid with one tightened edge. That the ends are vertices stays a clause, here and below: an edge knows no grid.
     pub fn tighten(&self, e: Edge) -> Grid
         requires { (e.from < most_vertices) × (e.to < most_vertices) }
         ensures { result.rows ≡ tighten self.now.rows e.from e.to e.weight }

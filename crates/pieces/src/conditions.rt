@@ -12,6 +12,7 @@ use program::types::{Instruction, Program};
 use question::types::{Kind, Token};
 use sights::types::Sight;
 
+// `Usable` stays a clause, here and below: only the context that a sight is seen from knows it. So does `Room`: its numbers differ at each call.
 pub fn token(into: &mut Program, s: &Sight, t: Token)
     requires { Room into.old (cost (token_of t)) (pairs (token_of t)) × Usable s.now × TokenUses (Has s.now) (token_of t) }
     ensures { Builds into.old into.new (cost (token_of t)) (pairs (token_of t)) (compiled.token (sight_of s.now) (token_of t)) }

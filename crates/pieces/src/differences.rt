@@ -13,11 +13,12 @@ use program::types::{Instruction, Program};
 use question::types::Op;
 use sights::types::Sight;
 
-// Column i; nothing where it is hidden or kept.
+// Column i; nothing where it is hidden or kept. That both sights have as many columns stays a clause: it is said of two values.
 pub fn differs_at(into: &mut Program, a: &Sight, b: &Sight, i: usize)
     requires { Room into.old 5 2 × Usable a.now × Usable b.now × (length b.now.columns.now ≡ length a.now.columns.now) × Has a.now i }
     ensures { Builds into.old into.new 5 2 (differs_at a.now b.now i) }
 {
+    // a sight has 12 columns at most
     let c = i as u8;
     if a.columns[i].visible && !kept(a.mode(c)) {
         into.compare(Op::Unequal, a.term(c), b.term(c));
@@ -30,6 +31,7 @@ pub fn differs_all(into: &mut Program, a: &Sight, b: &Sight)
     requires { Room into.old (5 * most_columns) (2 * most_columns) × Usable a.now × Usable b.now × (length b.now.columns.now ≡ length a.now.columns.now) }
     ensures { Builds into.old into.new (5 * most_columns) (2 * most_columns) (differs_over (mode_in a.now) (sight_of a.now) (sight_of b.now) (visible_of a.now)) }
 {
+    // by an index: both sights know a column by its number
     for i in 0..a.columns.len() {
         differs_at(into, a, b, i);
     }

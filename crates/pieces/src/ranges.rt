@@ -41,6 +41,7 @@ pub fn bounded_at(into: &mut Program, s: &Sight, j: usize, g: Column)
     requires { Room into.old 4 2 × Usable s.now × (s.now.moved ≡ true) × (j < length (modes_of s.now)) }
     ensures { Builds into.old into.new 4 2 (bounded_at s.now j (column_of g).range) }
 {
+    // a sight has 12 columns at most
     let i = (s.first + j) as u8;
     if !kept(s.mode(i)) {
         bounded(into, s.term(i), g);
@@ -52,6 +53,7 @@ pub fn bounded_all(into: &mut Program, s: &Sight)
     requires { Room into.old (4 * most_columns) (2 * most_columns) × Usable s.now × (s.now.moved ≡ true) }
     ensures { Builds into.old into.new (4 * most_columns) (2 * most_columns) (bounded_all (row_of s.now) (table_from s.now.first s.now.columns.now) (modes_of s.now)) }
 {
+    // by an index: the column's number follows from the mode's
     for j in 0..s.modes.count() {
         bounded_at(into, s, j, s.columns[s.first + j]);
     }

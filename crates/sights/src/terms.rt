@@ -19,6 +19,7 @@ pub fn vertex_of(second: bool, visible: bool, n: usize, i: u8) -> u8
     ensures { result ≡ vertex_of second visible n i }
 {
     if second && !visible {
+        // n is 12 at most
         return n as u8 + i + 1;
     }
     i + 1
@@ -31,7 +32,7 @@ pub fn whole(q: &Question)
     let _ = q.columns[0].visible;
 }
 
-// The vertex of a question's column.
+// The vertex of a question's column. `Sight::vertex` stands beside it: each is one line over `vertex_of`, of another value.
 pub fn vertex_at(q: &Question, second: bool, i: u8) -> u8
     requires { Whole q.now × There q.now i }
     ensures { result ≡ (row_sight (question_of q.now) second i).vertex }
@@ -79,7 +80,7 @@ impl Modes<'_> {
 }
 
 impl Sight<'_> {
-    // The vertex of a column as it is.
+    // The vertex of a column as it is. `Usable` stays a clause, here and below: only the context that a sight is seen from knows it.
     pub fn vertex(&self, i: u8) -> u8
         requires { Usable self.now × Has self.now i }
         ensures { result ≡ (row_of self.now i).vertex }

@@ -19,6 +19,7 @@ fn least_sum(edges: &[i64; VERTICES], on: &[i64; VERTICES], n: usize) -> i64
     ensures { result ≡ least (λ u. get_or edges.now u (pos 0) +ℤ get_or on.now u (pos 0)) (n - 1) }
 {
     let mut sum = edges[0] + on[0];
+    // by an index: two rows are read at it
     for u in 1..n {
         let other = edges[u] + on[u];
         sum = lesser(sum, other);
@@ -40,6 +41,7 @@ impl<'a> Walks<'a> {
         requires { s < most_vertices }
         ensures { row.new ≡ filled (λ v. weight self.now.grid.now.rows v s) self.now.n row.old }
     {
+        // by an index: the row's entry and the grid's row have one number
         for v in 0..self.n {
             row[v] = self.grid.rows[v][s];
         }
@@ -50,6 +52,7 @@ impl<'a> Walks<'a> {
         requires { RowWithin wide self.now.n on.now }
         ensures { row.new ≡ filled (λ v. least (λ u. weight self.now.grid.now.rows v u +ℤ get_or on.now u (pos 0)) (self.now.n - 1)) self.now.n row.old }
     {
+        // by an index, as above
         for v in 0..self.n {
             row[v] = least_sum(&self.grid.rows[v], on, self.n);
         }
@@ -63,6 +66,7 @@ impl<'a> Walks<'a> {
     {
         self.column(row, s);
         let mut next = [0i64; VERTICES];
+        // so many turns: nothing is read at j
         for j in 0..edges {
             self.longer(row, &mut next);
             *row = next;

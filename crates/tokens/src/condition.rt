@@ -33,6 +33,7 @@ fn tokens(from: &mut Cursor, names: Names, count: usize) -> Result<Condition, Re
         compared: 0,
         height: 0,
     };
+    // by an index: what is kept beside the tokens is said of the first i
     for i in 0..count {
         let kind = token(from, names, so_far)?;
         tokens[i] = Token { kind };

@@ -17,7 +17,7 @@ const LARGEST: i32 = 2000000000;
 // FORMAT 3.3: the byte that stands for no column.
 pub const NO_COLUMN: u8 = 255;
 
-// FORMAT 3.3: the operators by number.
+// FORMAT 3.3: the operators by number. A byte of the format becomes an operator here, and comes from nowhere else.
 fn op_of(number: u8) -> Op
     ensures { op_of result ≡ reader.op_of number }
 {
@@ -119,6 +119,7 @@ impl SoFar {
     }
 }
 
+// A token. Its first byte says which kind it is; nothing else does.
 pub(crate) fn token(from: &mut Cursor, names: Names, so_far: SoFar) -> Result<Kind, Refusal>
     ensures { Steps kind_of (λ s p. token_with s names.low names.high so_far.compared so_far.height p) from.old result from.new }
 {
