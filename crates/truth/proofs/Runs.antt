@@ -1,11 +1,11 @@
 -- The run over the numbers of the instructions, one instruction at a time.
 use Rattle.std.proofs.Common.{ℕ, zero, suc, ◌+◌, ◌<◌, ◌≤◌, ◌≡◌, refl, Bool, List, [], ◌∷◌, map, length, get_or, drop, arith, add-one}
-use Rattle.std.proofs.lemmas.List.{drop_more}
+use Rattle.std.proofs.lemmas.List.{drop_all, drop_more, drop-map}
 use Rattle.page_formulas.specs.Program.{two, one}
-use Rattle.page_formulas.specs.Knowledge.{Three, later}
+use Rattle.page_formulas.specs.Knowledge.{Three, later, sure}
 use Rattle.page_formulas.specs.Kinds.{kind_step, kind_later, run_kinds}
-use Rattle.program.specs.declared.types.Instruction.{Instruction}
-use Rattle.program.specs.Meanings.{number_of}
+use Rattle.truth.specs.Bytes.{Alike}
+use Rattle.truth.specs.Values.{decided_of}
 
 pub two_short : (f : Three → Three → Three) (st : List Three) → length (two f st) ≤ length st
 two_short f [] = omega arith
@@ -25,6 +25,17 @@ later_suc (d ∷ ds) (suc n) = later_suc ds n
 pub later_drop : (ds : List Bool) (n : ℕ) → later (drop n ds) ≡ drop (n + 1) ds
 later_drop ds n = rw add-one (later_suc ds n)
 
-pub run_on : (xs : List Instruction) (i : ℕ) (d x : Instruction) (ds : List Bool) (st : List Three) → i < length xs → get_or xs i d ≡ x → run_kinds (kind_later (number_of x) ds) (map number_of (drop (i + 1) xs)) (kind_step (number_of x) ds st) ≡ run_kinds ds (map number_of (drop i xs)) st
-unfolding run_kinds
-run_on xs i d x ds st h e = rw (drop_more xs i d h, e)
+-- what place n pushes, where it is decided
+pub decided_at : {T : Type 0} (passes : T → Bool) (ts : List T) (n : ℕ) (t : T) → n < length ts → t ≡ get_or ts n t → decided_of (map passes ts) n ≡ sure (passes t)
+decided_at passes ts n t h e = rw (drop-map passes n ts, drop_more ts n t h, ← e)
+
+module _ {I : Type 0} (number : I → ℕ) (xs : List I) (i : ℕ) (ds : List Bool) (st whole : List Three) (same : run_kinds ds (map number (drop i xs)) st ≡ whole) where
+  -- one step more of the run, by a number that does what the step's does
+  pub run_on : (x : I) → i < length xs → x ≡ get_or xs i x → (k : ℕ) → Alike k (number x) → run_kinds (kind_later k ds) (map number (drop (i + 1) xs)) (kind_step k ds st) ≡ whole
+  unfolding run_kinds
+  run_on x h e k a = rw (a.steps ds st, a.passed ds) (rw (drop_more xs i x h, ← e) at same)
+
+  -- none is left
+  pub run_out : length xs ≤ i → st ≡ whole
+  unfolding run_kinds
+  run_out h = rw (drop_all i xs h) at same

@@ -2,4 +2,5 @@
 #![tactic(auto)]
 
 mod stack;
+mod steps;
 pub mod truths;

@@ -4,9 +4,11 @@ ghost use Rattle.page_formulas.specs.Costs.{most_instructions};
 ghost use Rattle.page_formulas.specs.Kinds.{known_kinds};
 ghost use Rattle.page_formulas.specs.Knowledge.{and3, or3, not3};
 ghost use Rattle.program.specs.Meanings.{number_of};
+ghost use Rattle.truth.specs.Bytes.{bit};
 ghost use Rattle.truth.specs.Values.{three_of, decided_of};
 
 use crate::stack::Stack;
+use crate::steps::{Decision, Step};
 use program::types::Instruction;
 
 // In this order and is the lesser, or the greater.
@@ -42,25 +44,25 @@ impl Truth {
 }
 
 // A place that isn't decided yet is open.
-fn decided(truths: &[bool], place: usize) -> Truth
-    ensures { three_of result ≡ decided_of truths.now place }
+fn decided<T: Decision>(truths: &[T], place: usize) -> Truth
+    ensures { three_of result ≡ decided_of (map T.passes truths.now) place }
 {
     match truths.get(place) {
-        Some(&true) => Truth::Passes,
-        Some(&false) => Truth::Fails,
+        Some(truth) if truth.passes() => Truth::Passes,
+        Some(_) => Truth::Fails,
         None => Truth::Open,
     }
 }
 
-// Of a program under the truths of its first places.
-pub fn known(instructions: &[Instruction], truths: &[bool]) -> Truth
+// Of what stands for instructions, under what stands for the truths of the first places.
+fn run<I: Step, T: Decision>(instructions: &[I], truths: &[T]) -> Truth
     requires { length instructions.now ≤ most_instructions }
-    ensures { three_of result ≡ known_kinds (map number_of instructions.now) truths.now }
+    ensures { three_of result ≡ known_kinds (map I.number instructions.now) (map T.passes truths.now) }
 {
     let mut stack = Stack::new();
     let mut place: usize = 0;
     for i in instructions {
-        match i {
+        match i.instruction() {
             Instruction::Place => {
                 stack.push(decided(truths, place));
                 place += 1;
@@ -73,4 +75,20 @@ pub fn known(instructions: &[Instruction], truths: &[bool]) -> Truth
         }
     }
     stack.top()
+}
+
+// Of a program under the truths of its first places.
+pub fn known(instructions: &[Instruction], truths: &[bool]) -> Truth
+    requires { length instructions.now ≤ most_instructions }
+    ensures { three_of result ≡ known_kinds (map number_of instructions.now) truths.now }
+{
+    run(instructions, truths)
+}
+
+// The same of the numbers of a program's instructions (from 5 on false), under bytes (0 false, else true).
+pub fn known_bytes(kinds: &[u8], truths: &[u8]) -> Truth
+    requires { length kinds.now ≤ most_instructions }
+    ensures { three_of result ≡ known_kinds kinds.now (map bit truths.now) }
+{
+    run(kinds, truths)
 }
