@@ -41,16 +41,10 @@ fn named(ranges: &[Option<Range>], part: &[u8], first: usize, count: usize) -> R
     for i in 0..count {
         let place = first + i;
         if part.len() <= place {
-            return Err(Refusal {
-                fault: Fault::SheetShort,
-                place,
-            });
+            return Err(Fault::SheetShort.at(place));
         }
         if !shown(ranges, part[place]) {
-            return Err(Refusal {
-                fault: Fault::SheetCode,
-                place,
-            });
+            return Err(Fault::SheetCode.at(place));
         }
     }
     Ok(())
@@ -67,10 +61,7 @@ pub fn false_leaf(
 {
     match known(instructions, truths) {
         Truth::Fails => Ok(at + 1),
-        Truth::Open | Truth::Passes => Err(Refusal {
-            fault: Fault::SheetFalse,
-            place: at,
-        }),
+        Truth::Open | Truth::Passes => Err(Fault::SheetFalse.at(at)),
     }
 }
 
@@ -97,17 +88,11 @@ pub fn cycle(
 {
     let from = at + 1;
     if part.len() <= from {
-        return Err(Refusal {
-            fault: Fault::SheetShort,
-            place: from,
-        });
+        return Err(Fault::SheetShort.at(from));
     }
     let count = part[from] as usize;
     if count == 0 || LONGEST < count {
-        return Err(Refusal {
-            fault: Fault::SheetCode,
-            place: from,
-        });
+        return Err(Fault::SheetCode.at(from));
     }
     let first = from + 1;
     named(ranges, part, first, count)?;
@@ -115,8 +100,5 @@ pub fn cycle(
     if below_zero(g, last, &part[first..end]) {
         return Ok(end);
     }
-    Err(Refusal {
-        fault: Fault::SheetFalse,
-        place: at,
-    })
+    Err(Fault::SheetFalse.at(at))
 }

@@ -81,22 +81,13 @@ pub fn tree(f: &Formula, part: &[u8], g: &Grid, stage: &Stage) -> Result<usize, 
 {
     let at = stage.at;
     if part.len() <= at {
-        return Err(Refusal {
-            fault: Fault::SheetShort,
-            place: at,
-        });
+        return Err(Fault::SheetShort.at(at));
     }
     match part[at] {
         1 => false_leaf(f.program.instructions(), &stage.truths[..stage.decided], at),
         2 => cycle(&f.vertices.ranges, g, stage.last, part, at),
         3 if stage.decided < f.program.decisions => branch(f, part, g, stage),
-        3 => Err(Refusal {
-            fault: Fault::SheetFalse,
-            place: at,
-        }),
-        _ => Err(Refusal {
-            fault: Fault::SheetCode,
-            place: at,
-        }),
+        3 => Err(Fault::SheetFalse.at(at)),
+        _ => Err(Fault::SheetCode.at(at)),
     }
 }

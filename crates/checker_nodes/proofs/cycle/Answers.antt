@@ -41,4 +41,4 @@ returns-then-below_zero c = λ F base f.
 pub returns : goal.returns
 returns c = λ F base f.
     let a = c.args in
-    cycle_open most_vertices F (with_fact a.g.now.rows a.last) a.part.now a.at base c.if-part-from.false c.if-count-eq0.false c.if-count-gt-LONGEST.false (c.in_ok-named.ensures.meaning F.ranges base f) (sym (rw (short (a.at + 1 + 1) (get_or a.part.now (a.at + 1) 0)) at c.below_zero.ensures) ∙ c.if-below_zero.false)
+    rw c.at-2.ensures (cycle_open most_vertices F (with_fact a.g.now.rows a.last) a.part.now a.at base c.if-part-from.false c.if-count-eq0.false c.if-count-gt-LONGEST.false (c.in_ok-named.ensures.meaning F.ranges base f) (sym (rw (short (a.at + 1 + 1) (get_or a.part.now (a.at + 1) 0)) at c.below_zero.ensures) ∙ c.if-below_zero.false))

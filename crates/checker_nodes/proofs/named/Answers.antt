@@ -22,25 +22,25 @@ pub returns-then-part-place : goal.returns-then-part-place
 returns-then-part-place c = let l = c.loop-i in
     let a = c.args in
     let bytes = drop a.first a.part.now in
-    record {
+    rw c.at.ensures (record {
       meaning = λ rs base f.
           let e : base + (a.first + l.i) ≡ base + a.first + l.i = omega arith in
           ap (refused 11) e ∙ named_short rs (base + a.first) bytes l.i a.count c.loop-i-test.true (omega (arith, length-drop a.first a.part.now)) (omega (arith, length-drop a.first a.part.now)) (l.invariant.shown rs f);
       inside = tt;
       past = omega arith;
-    }
+    })
 
 pub returns-then-not-shown : goal.returns-then-not-shown
 returns-then-not-shown c = let l = c.loop-i in
     let a = c.args in
     let bytes = drop a.first a.part.now in
-    record {
+    rw c.at-then-not-shown.ensures (record {
       meaning = λ rs base f.
           let e : base + (a.first + l.i) ≡ base + a.first + l.i = omega arith in
           ap (refused 14) e ∙ named_lacking rs (base + a.first) bytes l.i a.count c.loop-i-test.true (omega (arith, length-drop a.first a.part.now)) (l.invariant.shown rs f) (tested a.ranges.now rs a.part.now a.first l.i _ f (sym c.shown.ensures ∙ c.if-not-shown.true));
       inside = tt;
       past = omega arith;
-    }
+    })
 
 pub loop-i-preserved : goal.loop-i-preserved
 loop-i-preserved c = let l = c.loop-i in
