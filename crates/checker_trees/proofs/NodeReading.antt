@@ -1,7 +1,7 @@
--- A node of a tree where the code reads it: at a position of the part that it was lent, with so many places decided.
-use Rattle.std.proofs.Common.{ℕ, zero, suc, ◌+◌, ◌<◌, ◌≤◌, ◌≡◌, Bool, true, false, List, [], ◌∷◌, ◌++◌, length, get_or, set, take, drop, refl, sym, ap, ◌∙◌, add-one, arith}
+-- A node of a tree where the code reads it: at a position of the part that it was lent, with the first places decided.
+use Rattle.std.proofs.Common.{ℕ, zero, suc, ◌+◌, ◌<◌, ◌≤◌, ◌≡◌, Bool, true, false, List, [], ◌∷◌, ◌++◌, length, get_or, drop, refl, sym, ◌∙◌, length-append, add-one, arith}
 use Rattle.std.proofs.lemmas.List.{drop_all}
-use lib.Seq.{drop-cons, take-suc-set}
+use lib.Seq.{drop-cons}
 use Rattle.page_numbers.specs.Outcome.{good, refused}
 use Rattle.page_meaning.specs.Limits.{most_vertices}
 use Rattle.page_walks.specs.Grid.{Grid}
@@ -26,58 +26,61 @@ check_other F ds g ps at (suc (suc (suc zero))) bs one two three = absurd (three
 check_other F ds g [] at (suc (suc (suc (suc b)))) bs one two three = refl
 check_other F ds g (p ∷ ps) at (suc (suc (suc (suc b)))) bs one two three = refl
 
-module _ (F : Formula) (d : ℕ) (truths : List Bool) (g : Grid) (part : List ℕ) (at base : ℕ) where
+module _ (F : Formula) (truths : List Bool) (g : Grid) (part : List ℕ) (at base : ℕ) where
   abbrev ps : List Place
   ps = places F.program
 
+  abbrev d : ℕ
+  d = length truths
+
   abbrev Here : Checked
-  Here = check_from F d truths g (base + at) (drop at part)
+  Here = check_from F truths g (base + at) (drop at part)
 
   pub left_end : length part ≤ at → refused 11 (base + at) ≡ Here
   unfolding check_from
-  left_end h = rw (drop_all at part h) (sym (check_empty last_vertex F (take d truths) g (drop d ps) (base + at)))
+  left_end h = rw (drop_all at part h) (sym (check_empty last_vertex F truths g (drop d ps) (base + at)))
 
   module _ (h : at < length part) where
     opened : drop at part ≡ get_or part at 0 ∷ drop (at + 1) part
     opened = rw (add-one at) (drop-cons part at 0 h)
 
-    pub left_false : get_or part at 0 ≡ 1 → false_node (known_kinds (kinds_of F.program) (take d truths)) (base + at) (drop (at + 1) part) ≡ Here
+    pub left_false : get_or part at 0 ≡ 1 → false_node (known_kinds (kinds_of F.program) truths) (base + at) (drop (at + 1) part) ≡ Here
     unfolding check_from
     left_false n =
-        rw (opened, n, ← known_kinds_lem F.program (take d truths))
-        (sym (check_false last_vertex F (take d truths) g (drop d ps) (base + at) (drop (at + 1) part)))
+        rw (opened, n, ← known_kinds_lem F.program truths)
+        (sym (check_false last_vertex F truths g (drop d ps) (base + at) (drop (at + 1) part)))
 
     pub left_cycle : get_or part at 0 ≡ 2 → cycle_node most_vertices F g (base + at) (drop (at + 1) part) ≡ Here
     unfolding check_from
-    left_cycle n = rw (opened, n) (sym (check_cycle last_vertex F (take d truths) g (drop d ps) (base + at) (drop (at + 1) part)))
+    left_cycle n = rw (opened, n) (sym (check_cycle last_vertex F truths g (drop d ps) (base + at) (drop (at + 1) part)))
 
     pub left_other : ¬ (get_or part at 0 ≡ 1) → ¬ (get_or part at 0 ≡ 2) → ¬ (get_or part at 0 ≡ 3) → refused 14 (base + at) ≡ Here
     unfolding check_from
-    left_other one two three = rw opened (sym (check_other F (take d truths) g (drop d ps) (base + at) (get_or part at 0) (drop (at + 1) part) one two three))
+    left_other one two three = rw opened (sym (check_other F truths g (drop d ps) (base + at) (get_or part at 0) (drop (at + 1) part) one two three))
 
     module _ (n : get_or part at 0 ≡ 3) where
       pub left_none : length ps ≤ d → refused 15 (base + at) ≡ Here
       unfolding check_from
-      left_none e = rw (opened, n) (sym (check_split_none last_vertex F (take d truths) g ps d nowhere e (base + at) (drop (at + 1) part)))
+      left_none e = rw (opened, n) (sym (check_split_none last_vertex F truths g ps d nowhere e (base + at) (drop (at + 1) part)))
 
-      module _ (some : d < length ps) (room : d < length truths) where
+      module _ (some : d < length ps) where
         -- one of the two trees: with one place less, under one fact more
         abbrev half : Bool → ℕ → List ℕ → Checked
-        half b o bs = check_from F (d + 1) (set truths d b) (decide g (get_or ps d nowhere) b) o bs
+        half b o bs = check_from F (truths ++ (b ∷ [])) (decide g (get_or ps d nowhere) b) o bs
 
-        half_is : (b : Bool) (o : ℕ) (bs : List ℕ) → half b o bs ≡ check most_vertices F (drop (suc d) ps) (take d truths ++ (b ∷ [])) (decide g (get_or ps d nowhere) b) o bs
+        half_is : (b : Bool) (o : ℕ) (bs : List ℕ) → half b o bs ≡ check most_vertices F (drop (suc d) ps) (truths ++ (b ∷ [])) (decide g (get_or ps d nowhere) b) o bs
         unfolding check_from
-        half_is b o bs = rw (add-one d, take-suc-set truths d b room)
+        half_is b o bs = rw (length-append truths (b ∷ []), add-one d)
 
-        split : Here ≡ and_then (check most_vertices F (drop (suc d) ps) (take d truths ++ (true ∷ [])) (decide g (get_or ps d nowhere) true) (suc (base + at)) (drop (at + 1) part)) (λ o r. check most_vertices F (drop (suc d) ps) (take d truths ++ (false ∷ [])) (decide g (get_or ps d nowhere) false) o r)
+        split : Here ≡ and_then (check most_vertices F (drop (suc d) ps) (truths ++ (true ∷ [])) (decide g (get_or ps d nowhere) true) (suc (base + at)) (drop (at + 1) part)) (λ o r. check most_vertices F (drop (suc d) ps) (truths ++ (false ∷ [])) (decide g (get_or ps d nowhere) false) o r)
         unfolding check_from
-        split = rw (opened, n) (check_split last_vertex F (take d truths) g ps d nowhere some (base + at) (drop (at + 1) part))
+        split = rw (opened, n) (check_split last_vertex F truths g ps d nowhere some (base + at) (drop (at + 1) part))
 
         -- what the two trees come to, from what the first does
-        after_first : (x : Checked) → x ≡ half true (base + (at + 1)) (drop (at + 1) part) → and_then x (λ o r. check most_vertices F (drop (suc d) ps) (take d truths ++ (false ∷ [])) (decide g (get_or ps d nowhere) false) o r) ≡ Here
+        after_first : (x : Checked) → x ≡ half true (base + (at + 1)) (drop (at + 1) part) → and_then x (λ o r. check most_vertices F (drop (suc d) ps) (truths ++ (false ∷ [])) (decide g (get_or ps d nowhere) false) o r) ≡ Here
         after_first x e =
             let next : base + (at + 1) ≡ suc (base + at) = omega arith in
-            let first : x ≡ check most_vertices F (drop (suc d) ps) (take d truths ++ (true ∷ [])) (decide g (get_or ps d nowhere) true) (suc (base + at)) (drop (at + 1) part) = rw next at (e ∙ half_is true (base + (at + 1)) (drop (at + 1) part)) in
+            let first : x ≡ check most_vertices F (drop (suc d) ps) (truths ++ (true ∷ [])) (decide g (get_or ps d nowhere) true) (suc (base + at)) (drop (at + 1) part) = rw next at (e ∙ half_is true (base + (at + 1)) (drop (at + 1) part)) in
             rw first (sym split)
 
         pub left_bad : (number p : ℕ) → refused number p ≡ half true (base + (at + 1)) (drop (at + 1) part) → refused number p ≡ Here
@@ -87,6 +90,6 @@ module _ (F : Formula) (d : ℕ) (truths : List Bool) (g : Grid) (part : List �
         left_both p r x y = y ∙ half_is false (base + p) (drop p part) ∙ after_first (good (base + p, drop p part)) x
 
 -- with no place decided the check is that of the whole tree
-pub left_all : (F : Formula) (truths : List Bool) (at : ℕ) (bs : List ℕ) → check_from F 0 truths (start most_vertices F.ranges) at bs ≡ check_tree most_vertices F at bs
+pub left_all : (F : Formula) (at : ℕ) (bs : List ℕ) → check_from F [] (start most_vertices F.ranges) at bs ≡ check_tree most_vertices F at bs
 unfolding check_from
-left_all F truths at bs = refl
+left_all F at bs = refl

@@ -22,8 +22,8 @@ use program::types::{Formula, Instruction, Place};
 use program_tree::types::Tree;
 use spreads::begin;
 use tableau::openings::opens_under;
+use truth::decisions::Truths;
 use truth::truths::{Truth, known};
-use writer_trees::types::Truths;
 
 // The closure with one fact more, where the formula is open under it.
 fn opens_with(tree: &Tree, near: &Grid, e: Edge) -> Option<Grid>

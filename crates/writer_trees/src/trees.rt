@@ -20,7 +20,7 @@ ghost use Rattle.writer_trees.specs.Trees.{Grows, cut_bytes, grown, side_by};
 ghost use Rattle.grid.specs.Edges.{Fact};
 ghost use Rattle.grid.specs.Facts.{with_fact};
 
-use crate::types::{Ground, Truths};
+use crate::types::Ground;
 use closure::relax_in;
 use cycles::search;
 use facts::{added, start};
@@ -29,6 +29,7 @@ use grid::{Edge, Grid};
 use program::types::Formula;
 use room::{Full, Sink};
 use spreads::begin;
+use truth::decisions::Truths;
 use truth::truths::Truth;
 
 // Node 2: these vertices.

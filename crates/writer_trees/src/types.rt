@@ -1,70 +1,14 @@
-// The declared types.
-ghost use Rattle.std.specs.Prelude.{suc, ◌<◌, ◌≤◌, ◌≡◌, ◌++◌, ◌∷◌, [], length};
-ghost use Rattle.page_meaning.specs.Limits.{most_decisions};
+// The declared type.
+ghost use Rattle.std.specs.Prelude.{suc, ◌≤◌, ◌≡◌, length};
 ghost use Rattle.page_formulas.specs.Costs.{most_instructions};
 ghost use Rattle.goals.specs.Closures.{Tight};
 ghost use Rattle.grid.specs.Edges.{Kept};
 ghost use Rattle.writer_trees.specs.Places.{Placing};
 
 use grid::Grid;
-use limits::PLACES;
 use program::types::{Instruction, Place};
-use std::marker::Model;
+use truth::decisions::Truths;
 use truth::truths::{Truth, known};
-
-// The truths of the places decided so far, in order: contracts see the list of them.
-#[derive(Drop)]
-pub struct Truths {
-    cells: [bool; PLACES],
-    count: usize,
-}
-
-impl Model for Truths {
-    ghost use Rattle.std.specs.Prelude.{◌≤◌, Bool, List, take};
-    ghost use Rattle.page_meaning.specs.Limits.{most_decisions};
-
-    ghost Value = { List Bool };
-
-    ghost view = { λ t. take t.count t.cells };
-
-    ghost invariant = { λ t. t.count ≤ most_decisions };
-}
-
-impl Truths {
-    pub fn new() -> Truths
-        ensures { result ≡ [] }
-    {
-        Truths {
-            cells: [false; PLACES],
-            count: 0,
-        }
-    }
-
-    pub fn count(&self) -> usize
-        ensures { result ≡ length self.now }
-    {
-        self.so_far().len()
-    }
-
-    pub fn so_far(&self) -> &[bool]
-        ensures { result.now ≡ self.now }
-    {
-        &self.cells[..self.count]
-    }
-
-    // With that of the next place.
-    pub fn with(&self, truth: bool) -> Truths
-        requires { length self.now < most_decisions }
-        ensures { result ≡ self.now ++ truth ∷ [] }
-    {
-        let mut cells = self.cells;
-        cells[self.count] = truth;
-        Truths {
-            cells,
-            count: self.count + 1,
-        }
-    }
-}
 
 // What a node grows from, and all below it: a formula's instructions and places, the last of its vertices, the facts so far and their
 // closure.

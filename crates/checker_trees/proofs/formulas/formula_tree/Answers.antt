@@ -20,18 +20,16 @@ same_grid c = no_fact c.start.result.rows c.start.result.sized c.start.ensures.s
 
 pub tree-requires : goal.tree-requires
 tree-requires c =
-    let at = c.first.ensures in
     let root : Checkable c.start.result.rows (record { from = 0; to = 0; weight = far }) = record {
       small = subst (AllWithin far_n most_vertices) (sym (same_grid (goal.at.tree-requires c).After-first)) c.start.ensures.small;
       from_is = omega arith;
       to_is = omega arith;
     } in
-    (c.requires, record { few = omega (arith, at.1); checkable = subst (Checkable c.start.result.rows) (sym at.2) root })
+    (c.requires, rw c.first.ensures (record { few = omega arith; checkable = root }))
 
 pub returns : goal.returns
 returns c = λ F base is.
     let f = c.args.f.now in
     let i = c.requires in
-    let at = c.first.ensures in
     let grid = c.start.ensures.meaning F.ranges (spanned_of f F is (same_few f i.formula F i.is is i.proper.vertices)) in
-    simp add-zero at ((rw (at.0, at.1, at.2, same_grid (goal.at.returns c).After-first, grid) at (c.tree.ensures F base is)) ∙ left_all F c.first.result.truths (base + 0) _)
+    simp add-zero at ((rw (c.first.ensures, same_grid (goal.at.returns c).After-first, grid) at (c.tree.ensures F base is)) ∙ left_all F (base + 0) _)
