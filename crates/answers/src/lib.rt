@@ -17,7 +17,7 @@ use writer::finish;
 pub fn verdict(asked: u8, question: &[u8]) -> Result<Verdict, Refusal>
     ensures { judged_of result ≡ verdict_of asked question.now }
 {
-    let (asked, question) = ask(asked, question)?;
+    let question = ask(asked, question)?;
     Ok(judge(&question, asked))
 }
 
@@ -26,7 +26,7 @@ pub fn write(asked: u8, question: &[u8], room: &mut [u8]) -> Result<Sheet, Refus
     ensures done { done_of result room.new ≡ write_of asked question.now room.old }
     ensures fits { IfOk result (λ s. s.length ≤ length room.new) }
 {
-    let (asked, read) = ask(asked, question)?;
+    let read = ask(asked, question)?;
     finish(room, &read, asked)
 }
 
@@ -34,6 +34,6 @@ pub fn write(asked: u8, question: &[u8], room: &mut [u8]) -> Result<Sheet, Refus
 pub fn check(asked: u8, question: &[u8], sheet: &[u8]) -> Result<Verdict, Refusal>
     ensures { judged_of result ≡ check_of asked question.now sheet.now }
 {
-    let (asked, question) = ask(asked, question)?;
+    let question = ask(asked, question)?;
     from_mark(&question, asked, sheet)
 }

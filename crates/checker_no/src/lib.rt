@@ -4,7 +4,7 @@
 ghost use Rattle.std.specs.Prelude.{◌≡◌, cond, ◌+◌, ◌≤◌, ◌<◌, length};
 ghost use Rattle.page_meaning.specs.Contents as meant;
 ghost use Rattle.page_meaning.specs.Limits.{most_columns, most_vertices};
-ghost use Rattle.question.specs.Held.{question_of, asked_of};
+ghost use Rattle.question.specs.Held.{question_of};
 ghost use Rattle.page_formulas.specs.Formulas.{formulas};
 ghost use Rattle.page_formulas.specs.Formulas as spec;
 ghost use Rattle.program.specs.Compiled.{Compiled, Fine};
@@ -39,16 +39,10 @@ fn rows_end(f: &Formula, sheet: &[u8], count: usize) -> Result<Verdict, Refusal>
     ensures { (F : spec.Formula) (q : meant.Question) → Compiled f.now F → count ≡ rows.fields q F → judged_of result ≡ no_end q F sheet.now }
 {
     if !formula_met(f, sheet, count) {
-        return Err(Refusal {
-            fault: Fault::SheetFalse,
-            place: NUMBER,
-        });
+        return Err(Fault::SheetFalse.at(NUMBER));
     }
     if field_at(count) < sheet.len() {
-        return Err(Refusal {
-            fault: Fault::SheetLong,
-            place: 0,
-        });
+        return Err(Fault::SheetLong.at(0));
     }
     Ok(Verdict::No)
 }
@@ -65,21 +59,16 @@ fn formula_rows(q: &Question, i: usize, f: &Formula, sheet: &[u8]) -> Result<Ver
 }
 
 // The formula's number, then its rows.
-pub fn no_sheet(q: &Question, asked: Asked, sheet: &[u8]) -> Result<Verdict, Refusal>
-    ensures { judged_of result ≡ check_no (question_of q.now) (formulas (question_of q.now) (asked_of asked)) sheet.now }
+pub fn no_sheet(q: &Question, asked: u8, sheet: &[u8]) -> Result<Verdict, Refusal>
+    ensures { judged_of result ≡ check_no (question_of q.now) (formulas (question_of q.now) asked) sheet.now }
 {
     if sheet.len() <= NUMBER {
-        return Err(Refusal {
-            fault: Fault::SheetShort,
-            place: NUMBER,
-        });
+        return Err(Fault::SheetShort.at(NUMBER));
     }
+    let asked = Asked::from(asked);
     let i = sheet[NUMBER] as usize;
     if formula_count(q, asked) <= i {
-        return Err(Refusal {
-            fault: Fault::SheetCode,
-            place: NUMBER,
-        });
+        return Err(Fault::SheetCode.at(NUMBER));
     }
     formula_rows(q, i, &outline(q, asked, i), sheet)
 }

@@ -3,7 +3,7 @@
 
 ghost use Rattle.std.specs.Prelude.{◌≡◌, ◌≤◌, length};
 ghost use Rattle.page_meaning.specs.Limits.{most_vertices};
-ghost use Rattle.question.specs.Held.{question_of, asked_of};
+ghost use Rattle.question.specs.Held.{question_of};
 ghost use Rattle.page_formulas.specs.Formulas.{formulas};
 ghost use Rattle.page_sheets.specs.Sheet.{check_yes};
 ghost use Rattle.outcome.specs.Answers.{judged_of};
@@ -15,10 +15,11 @@ use question::types::{Asked, Question};
 use refusal::{Fault, Refusal};
 
 // The first tree stands after the header. The part of the sheet after a tree's end is lent to the next tree's check.
-pub fn yes_sheet(q: &Question, asked: Asked, sheet: &[u8]) -> Result<Verdict, Refusal>
+pub fn yes_sheet(q: &Question, asked: u8, sheet: &[u8]) -> Result<Verdict, Refusal>
     requires { 7 ≤ length sheet.now }
-    ensures { judged_of result ≡ check_yes most_vertices (formulas (question_of q.now) (asked_of asked)) sheet.now }
+    ensures { judged_of result ≡ check_yes most_vertices (formulas (question_of q.now) asked) sheet.now }
 {
+    let asked = Asked::from(asked);
     let mut at: usize = 7;
     for i in 0..formula_count(q, asked) {
         match formula_tree(&outline(q, asked, i), &sheet[at..]) {

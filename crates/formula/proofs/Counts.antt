@@ -12,13 +12,18 @@ use Rattle.page_meaning.specs.Contents.{Range, Table}
 use Rattle.page_meaning.specs.Contents as M
 use Rattle.page_meaning.specs.Claims.{insertion, modification, unless_alone}
 use Rattle.page_questions.specs.Layout.{tables_of, first_of, width_of, question_from}
-use Rattle.question.specs.Held.{version_of, row_of, ranges_of, widths_of, condition_of, question_of, Held}
-use Rattle.question.specs.declared.types.Question.{Question}
+use Rattle.page_questions.specs.Layout as L
+use Rattle.question.specs.Held.{version_of, row_of, widths_of, column_of, condition_of, change_by, question_with, ShapeHeld}
+use Rattle.question.specs.declared.types.Change.{Change}
+use Rattle.question.specs.declared.types.Column.{Column}
+use Rattle.question.specs.declared.types.Condition.{Condition}
+use Rattle.question.specs.declared.types.Shape.{Shape}
+use Rattle.question.specs.declared.types.Verb.{Verb}
 use Rattle.question.specs.declared.types.Verb.TheVariants.{Insert, Delete, Modify}
+use Rattle.question.specs.declared.types.Version.{Version}
 use Rattle.page_formulas.specs.Formulas as F
-use Rattle.formula_contexts.specs.Contexts.{settled_modes}
 use Rattle.page_questions.proofs.Layouts.{width_there}
-use Rattle.formula.proofs.NumberedFormulas.{version_is, lists, by}
+use Rattle.formula.proofs.NumberedFormulas.{lists, asked_are}
 
 tables_length : (ws : List ℕ) (gs : List Range) → length (tables_of ws gs) ≡ length ws
 unfolding tables_of
@@ -35,57 +40,67 @@ together [] [] l h = absurd (omega arith)
 together [] (u ∷ us) l h = refl
 together (t ∷ ts) us l h = refl
 
-abbrev new_rows : Question → List M.Values
-new_rows q = map (row_of q.shape.width) (take q.change.count q.change.rows)
+-- the formulas of a question by its parts
+module _ (v : Version) (h : Shape) (cs : List Column) (d : Condition) (ch : Change) where
+  abbrev Q : M.Question
+  Q = question_with v h cs d ch
 
-abbrev puts : Question → List F.Formula
-puts q = map (λ n. F.formula (question_of q) [] (map M.become n) insertion) (new_rows q)
+  by_verb : (asked : ℕ) (w : Verb) → ch.verb ≡ w → F.formulas Q asked ≡ lists Q (change_by w h.width ch) (eqb asked 1)
+  unfolding question_from
+  by_verb asked w e = asked_are Q Q.change (eqb asked 1) ∙ ap (λ w. lists Q (change_by w h.width ch) (eqb asked 1)) e
 
-listed_length : (q : Question) → length (puts q) ≡ length (take q.change.count q.change.rows)
-listed_length q =
-    length-map (new_rows q) (λ n. F.formula (question_of q) [] (map M.become n) insertion)
-    ∙ length-map (take q.change.count q.change.rows) (row_of q.shape.width)
+  -- ---- an insert
 
-module _ (q : Question) (held : Held q) where
-  others : length (question_of q).front + length (question_of q).back + 1 ≡ length (widths_of q.shape)
-  unfolding question_of question_from
-  others =
-      let ws = widths_of q.shape in
-      let t = q.shape.changed in
-      let n : t < length ws = width_there ws t (omega (arith, held.shape.some_column, held.shape.width)) in
-      omega (arith, tables_length (take t ws) (ranges_of q), tables_length (drop (suc t) ws) (drop (first_of ws t + width_of ws t) (ranges_of q)), length-take-le t ws (omega arith), length-drop (suc t) ws)
+  abbrev new_rows : List M.Values
+  new_rows = map (row_of h.width) (take ch.count ch.rows)
 
-  module _ (asked : ℕ) (v : q.change.verb ≡ Insert) where
-    as_asked : (b : Bool) → eqb asked 1 ≡ b → F.formulas (question_of q) asked ≡ lists (question_of q) (M.insert (new_rows q)) b
-    as_asked b e = by q asked Insert v ∙ ap (lists (question_of q) (M.insert (new_rows q))) e
+  abbrev puts : List F.Formula
+  puts = map (λ n. F.formula Q [] (map M.become n) insertion) new_rows
 
-    pub first_count : asked ≡ 1 → length (take q.change.count q.change.rows) ≡ length (F.formulas (question_of q) asked)
-    first_count e = sym (ap length (as_asked true (eq-eqb asked 1 e)) ∙ listed_length q)
+  listed_length : length puts ≡ length (take ch.count ch.rows)
+  listed_length = length-map new_rows (λ n. F.formula Q [] (map M.become n) insertion) ∙ length-map (take ch.count ch.rows) (row_of h.width)
 
-    pub alone_count : (asked ≡ 1 → ⊥) → length (widths_of q.shape) ≡ 1 → 0 ≡ length (F.formulas (question_of q) asked)
-    alone_count e one = sym (ap length (as_asked false (ne_eqb asked 1 e) ∙ alone (question_of q).front (question_of q).back (puts q) (omega (arith, others))))
+  module _ (held : ShapeHeld h) where
+    inside : h.changed < length (widths_of h)
+    inside = width_there (widths_of h) h.changed (omega (arith, held.some_column, held.width))
 
-    pub together_count : (asked ≡ 1 → ⊥) → (length (widths_of q.shape) ≡ 1 → ⊥) → length (take q.change.count q.change.rows) ≡ length (F.formulas (question_of q) asked)
-    together_count e many =
-        let n : q.shape.changed < length (widths_of q.shape) = width_there (widths_of q.shape) q.shape.changed (omega (arith, held.shape.some_column, held.shape.width)) in
-        sym (ap length (as_asked false (ne_eqb asked 1 e) ∙ together (question_of q).front (question_of q).back (puts q) (omega (arith, others, many))) ∙ listed_length q)
+    others : length Q.front + length Q.back + 1 ≡ length (widths_of h)
+    unfolding question_from
+    others =
+        let ws = widths_of h in
+        let t = h.changed in
+        let gs = L.ranges_of (map column_of (take h.total cs)) in
+        omega (arith, inside, tables_length (take t ws) gs, tables_length (drop (suc t) ws) (drop (first_of ws t + width_of ws t) gs), length-take-le t ws (omega (arith, inside)), length-drop (suc t) ws)
 
--- ---- a delete and a modify
+    module _ (asked : ℕ) (e : ch.verb ≡ Insert) where
+      as_asked : (b : Bool) → eqb asked 1 ≡ b → F.formulas Q asked ≡ lists Q (M.insert new_rows) b
+      as_asked b k = by_verb asked Insert e ∙ ap (lists Q (M.insert new_rows)) k
 
-module _ (q : Question) (asked : ℕ) where
-  pub delete_count : q.change.verb ≡ Delete → 1 ≡ length (F.formulas (question_of q) asked)
-  delete_count e = go (eqb asked 1) ∙ sym (ap length (by q asked Delete e))
+      pub first_count : asked ≡ 1 → length (take ch.count ch.rows) ≡ length (F.formulas Q asked)
+      first_count k = sym (ap length (as_asked true (eq-eqb asked 1 k)) ∙ listed_length)
+
+      pub alone_count : (asked ≡ 1 → ⊥) → length (widths_of h) ≡ 1 → 0 ≡ length (F.formulas Q asked)
+      alone_count k one = sym (ap length (as_asked false (ne_eqb asked 1 k) ∙ alone Q.front Q.back puts (omega (arith, others))))
+
+      pub together_count : (asked ≡ 1 → ⊥) → (length (widths_of h) ≡ 1 → ⊥) → length (take ch.count ch.rows) ≡ length (F.formulas Q asked)
+      together_count k many = sym (ap length (as_asked false (ne_eqb asked 1 k) ∙ together Q.front Q.back puts (omega (arith, inside, others, many))) ∙ listed_length)
+
+  -- ---- a delete and a modify
+
+  pub delete_count : (asked : ℕ) → ch.verb ≡ Delete → 1 ≡ length (F.formulas Q asked)
+  delete_count asked e = go (eqb asked 1) ∙ sym (ap length (by_verb asked Delete e))
     where
-      go : (b : Bool) → 1 ≡ length (lists (question_of q) (M.delete (condition_of q.change.condition)) b)
+      go : (b : Bool) → 1 ≡ length (lists Q (M.delete (condition_of ch.condition)) b)
       go true = refl
       go false = refl
 
-  module _ (e : q.change.verb ≡ Modify) where
-    counted : (b : Bool) → eqb asked 1 ≡ b → length (F.formulas (question_of q) asked) ≡ length (lists (question_of q) (M.modify (condition_of q.change.condition) (settled_modes q)) b)
-    counted b k = ap length (by q asked Modify e) ∙ ap (λ b. length (lists (question_of q) (M.modify (condition_of q.change.condition) (settled_modes q)) b)) k
+  module _ (asked : ℕ) (e : ch.verb ≡ Modify) where
+    counted : (b : Bool) → eqb asked 1 ≡ b → length (F.formulas Q asked) ≡ length (lists Q (change_by Modify h.width ch) b)
+    counted b k = ap length (by_verb asked Modify e) ∙ ap (λ b. length (lists Q (change_by Modify h.width ch) b)) k
 
-    pub modify_first : asked ≡ 1 → length (modification (version_of q.version) true) ≡ length (F.formulas (question_of q) asked)
-    modify_first k = sym (counted true (eq-eqb asked 1 k) ∙ length-map (modification (question_of q).version true) _ ∙ ap (λ v. length (modification v true)) (version_is q))
+    pub modify_first : asked ≡ 1 → length (modification (version_of v) true) ≡ length (F.formulas Q asked)
+    unfolding question_from
+    modify_first k = sym (counted true (eq-eqb asked 1 k) ∙ length-map (modification Q.version true) _)
 
-    pub modify_second : (asked ≡ 1 → ⊥) → 4 ≡ length (F.formulas (question_of q) asked)
+    pub modify_second : (asked ≡ 1 → ⊥) → 4 ≡ length (F.formulas Q asked)
     modify_second k = sym (counted false (ne_eqb asked 1 k))

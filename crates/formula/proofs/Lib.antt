@@ -1,3 +1,4 @@
+pub mod AskedAlike
 pub mod NumberedFormulas
 pub mod Counts
 pub mod Ranges

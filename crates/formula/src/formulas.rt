@@ -1,6 +1,7 @@
 // A formula of a question by its number.
-ghost use Rattle.std.specs.Prelude.{◌≡◌, ◌<◌, length};
-ghost use Rattle.question.specs.Held.{question_of, asked_of};
+ghost use Rattle.std.specs.Prelude.{◌≡◌, ◌≤◌, ◌<◌, List, length};
+ghost use Rattle.page_meaning.specs.Limits.{most_rows};
+ghost use Rattle.question.specs.Held.{question_of, question_with, asked_of, ShapeHeld};
 ghost use Rattle.page_formulas.specs.Formulas.{formulas};
 ghost use Rattle.program.specs.Built.{Long};
 ghost use Rattle.program.specs.Compiled.{Compiled};
@@ -10,7 +11,7 @@ use formula_claims::claims::line;
 use formula_contexts::contexts::Context;
 use formula_lines::lines::line_at;
 use program::types::{Formula, Program};
-use question::types::{Asked, Question, Verb, Version};
+use question::types::{Asked, Change, Column, Condition, Question, Shape, Verb, Version};
 use sights::terms::whole;
 use vertices::vertices;
 
@@ -31,13 +32,13 @@ pub fn outline(q: &Question, asked: Asked, i: usize) -> Formula
     formula
 }
 
-// FORMAT 5.3: asked 2, an insert into the only table has none.
-pub fn insert_count(q: &Question, asked: Asked) -> usize
-    requires { q.now.change.verb ≡ Verb.Insert }
-    ensures { result ≡ length (formulas (question_of q.now) (asked_of asked)) }
+// FORMAT 5.3: asked 2, an insert into the only table has none. Of a question it reads the tables and the change.
+pub fn insert_count(shape: &Shape, change: &Change, asked: Asked) -> usize
+    requires { ShapeHeld shape.now × (change.now.count ≤ most_rows) × (change.now.verb ≡ Verb.Insert) }
+    ensures { (v : Version) (cs : List Column) (d : Condition) → result ≡ length (formulas (question_with v shape.now cs d change.now) (asked_of asked)) }
 {
-    let rows = &q.change.rows[..q.change.count];
-    let tables = &q.shape.widths[..q.shape.tables];
+    let rows = &change.rows[..change.count];
+    let tables = &shape.widths[..shape.tables];
     match asked {
         Asked::Irrelevant => rows.len(),
         Asked::Computable => {
@@ -50,11 +51,10 @@ pub fn insert_count(q: &Question, asked: Asked) -> usize
 }
 
 // FORMAT 5.3: asked 1, version 2 has one more.
-pub fn modify_count(q: &Question, asked: Asked) -> usize
-    requires { q.now.change.verb ≡ Verb.Modify }
-    ensures { result ≡ length (formulas (question_of q.now) (asked_of asked)) }
+pub fn modify_count(version: Version, asked: Asked) -> usize
+    ensures { (h : Shape) (cs : List Column) (d : Condition) (ch : Change) → ch.verb ≡ Verb.Modify → result ≡ length (formulas (question_with version h cs d ch) (asked_of asked)) }
 {
-    match (asked, q.version) {
+    match (asked, version) {
         (Asked::Irrelevant, Version::One) => 3,
         (Asked::Irrelevant, Version::Two) => 4,
         (Asked::Computable, _) => 4,
@@ -66,8 +66,8 @@ pub fn formula_count(q: &Question, asked: Asked) -> usize
     ensures { result ≡ length (formulas (question_of q.now) (asked_of asked)) }
 {
     match q.change.verb {
-        Verb::Insert => insert_count(q, asked),
+        Verb::Insert => insert_count(&q.shape, &q.change, asked),
         Verb::Delete => 1,
-        Verb::Modify => modify_count(q, asked),
+        Verb::Modify => modify_count(q.version, asked),
     }
 }

@@ -1,4 +1,4 @@
--- The inserted value that a column must have, as the declared question holds it.
+-- The inserted value that a column must have, as the declared change holds it.
 use Prim.Native.Nat.{ℕ, zero, suc, ◌+◌, ◌-◌, ◌≤◌, ◌<◌}
 use mathlib.Core.Path.{◌≡◌, refl, sym, ap, ◌∙◌}
 use mathlib.Core.Logic.{◌⊎◌, inl, inr}
@@ -9,13 +9,18 @@ use lib.ListN.{length, get_or, take, replicate, length-replicate, get_or-replica
 use lib.Seq.{get_or-take, get_or-append-add, length-take-le}
 use lib.IntN.{ℤ, pos}
 use Rattle.page_meaning.specs.Contents.{Values}
-use Rattle.question.specs.Held.{row_of, question_of, change_by}
+use Rattle.question.specs.Held.{row_of, question_of, question_with, change_by, ShapeHeld}
 use Rattle.page_questions.specs.Layout.{question_from}
+use Rattle.question.specs.declared.types.Change.{Change}
+use Rattle.question.specs.declared.types.Column.{Column}
+use Rattle.question.specs.declared.types.Condition.{Condition}
 use Rattle.question.specs.declared.types.Question.{Question}
 use Rattle.question.specs.declared.types.Row.{Row}
+use Rattle.question.specs.declared.types.Shape.{Shape}
 use Rattle.question.specs.declared.types.Verb.TheVariants.{Insert, Delete, Modify}
+use Rattle.question.specs.declared.types.Version.{Version}
 use Rattle.sights.specs.Sights.{Whole}
-use Rattle.sights.proofs.Shapes.{first_is}
+use Rattle.sights.proofs.Shapes.{first_with}
 use Rattle.page_sheets.specs.Rows.{inserted_row, fixed}
 
 -- ---- an inserted row, set beside the columns before it
@@ -61,16 +66,16 @@ row_of_lem width count i rows d h l = sym (go (take count rows) i (omega (arith,
     go (r ∷ rs) zero b = refl
     go (r ∷ rs) (suc i) b = go rs i (omega arith)
 
-module _ (q : Question) (w : Whole q) (i c : ℕ) where
+module _ (v : Version) (h : Shape) (cs : List Column) (d : Condition) (ch : Change) (held : ShapeHeld h) (l : h.total ≤ length cs) (i c : ℕ) where
   abbrev inserted : List Values
-  inserted = map (row_of q.shape.width) (take q.change.count q.change.rows)
+  inserted = map (row_of h.width) (take ch.count ch.rows)
 
   -- what the question fixes, by its verb
-  fixed_of : fixed (question_of q) i c ≡ get_or (replicate q.shape.first none ++ map some (inserted_row (change_by q.change.verb q.shape.width q.change) i)) c none
-  unfolding fixed question_of question_from
-  fixed_of = ap (λ n. get_or (replicate n none ++ map some (inserted_row (change_by q.change.verb q.shape.width q.change) i)) c none) (first_is q w)
+  fixed_of : fixed (question_with v h cs d ch) i c ≡ get_or (replicate h.first none ++ map some (inserted_row (change_by ch.verb h.width ch) i)) c none
+  unfolding fixed question_from
+  fixed_of = ap (λ n. get_or (replicate n none ++ map some (inserted_row (change_by ch.verb h.width ch) i)) c none) (first_with v h cs d ch held l)
 
-  pub fixed_insert : q.change.verb ≡ Insert → fixed (question_of q) i c ≡ get_or (replicate q.shape.first none ++ map some (get_or inserted i [])) c none
+  pub fixed_insert : ch.verb ≡ Insert → fixed (question_with v h cs d ch) i c ≡ get_or (replicate h.first none ++ map some (get_or inserted i [])) c none
   fixed_insert e = fixed_of ∙ rw e
 
   nothing_fixed : (first : ℕ) → get_or (replicate first nothing ++ []) c none ≡ none
@@ -81,10 +86,16 @@ module _ (q : Question) (w : Whole q) (i c : ℕ) where
       go (suc n) zero = refl
       go (suc n) (suc k) = go n k
 
-  pub fixed_none : q.change.verb ≡ Insert → q.change.count ≤ i → none ≡ fixed (question_of q) i c
-  fixed_none e h = sym (fixed_insert e ∙ ap (λ l. get_or (replicate q.shape.first none ++ map some l) c none) (get_or-eq_default inserted [] (omega (arith, length-map (take q.change.count q.change.rows) (row_of q.shape.width), length-take q.change.count q.change.rows))) ∙ nothing_fixed q.shape.first)
+  pub fixed_none : ch.verb ≡ Insert → ch.count ≤ i → none ≡ fixed (question_with v h cs d ch) i c
+  fixed_none e k = sym (fixed_insert e ∙ ap (λ l. get_or (replicate h.first none ++ map some l) c none) (get_or-eq_default inserted [] (omega (arith, length-map (take ch.count ch.rows) (row_of h.width), length-take ch.count ch.rows))) ∙ nothing_fixed h.first)
 
   -- a delete and a modification fix none
-  pub fixed_other : (q.change.verb ≡ Delete) ⊎ (q.change.verb ≡ Modify) → none ≡ fixed (question_of q) i c
-  fixed_other (inl e) = sym (fixed_of ∙ rw e (nothing_fixed q.shape.first))
-  fixed_other (inr e) = sym (fixed_of ∙ rw e (nothing_fixed q.shape.first))
+  pub fixed_other : (ch.verb ≡ Delete) ⊎ (ch.verb ≡ Modify) → none ≡ fixed (question_with v h cs d ch) i c
+  fixed_other (inl e) = sym (fixed_of ∙ rw e (nothing_fixed h.first))
+  fixed_other (inr e) = sym (fixed_of ∙ rw e (nothing_fixed h.first))
+
+-- ---- a question's
+
+pub fixed_in : (q : Question) → Whole q → (i c : ℕ) (r : Option ℤ) → ((v : Version) (cs : List Column) (d : Condition) → q.shape.total ≤ length cs → r ≡ fixed (question_with v q.shape cs d q.change) i c) → r ≡ fixed (question_of q) i c
+unfolding question_of
+fixed_in q w i c r f = f q.version q.columns q.condition (omega (arith, w.long, w.held.shape.few_columns))

@@ -1,16 +1,15 @@
 // The value that an insert fixes in a column of a no sheet's row: checker and writer ask for it alike.
 #![tactic(auto)]
 
-ghost use Rattle.std.specs.Prelude.{◌≡◌, [], ◌++◌, map, ℕ, ◌≤◌, ◌<◌, get_or, take, replicate};
+ghost use Rattle.std.specs.Prelude.{◌≡◌, List, [], ◌++◌, map, ℕ, ◌≤◌, ◌<◌, length, get_or, take, replicate};
 ghost use Rattle.std.proofs.Math.Option.{none, some};
 ghost use Rattle.page_meaning.specs.Limits.{most_columns, most_rows};
-ghost use Rattle.question.specs.Held.{row_of, question_of};
-ghost use Rattle.sights.specs.Sights.{Whole};
+ghost use Rattle.question.specs.Held.{row_of, question_with, ShapeHeld};
 ghost use Rattle.page_sheets.specs.Rows.{fixed};
 ghost use Rattle.inserted.specs.FixedValues.{option_of};
 
 use limits::{COLUMNS, ROWS};
-use question::types::{Question, Row, Verb};
+use question::types::{Change, Column, Condition, Row, Shape, Verb, Version};
 
 // One of the inserted rows.
 fn row_at(rows: &[Row; ROWS], count: usize, i: usize) -> &Row
@@ -35,19 +34,20 @@ fn row_value(values: &[i32; COLUMNS], first: usize, width: usize, c: usize) -> O
     Some(values[j])
 }
 
-// Column c of the row of formula i: for insert, the changed table's values are the inserted row's.
-pub fn fixed_at(q: &Question, i: usize, c: usize) -> Option<i32>
-    requires { Whole q.now }
-    ensures { option_of result ≡ fixed (question_of q.now) i c }
+// Column c of the row of formula i: for insert, the changed table's values are the inserted row's. It is the same in every question of
+// these tables and this change.
+pub fn fixed_at(shape: &Shape, change: &Change, i: usize, c: usize) -> Option<i32>
+    requires { ShapeHeld shape.now × (change.now.count ≤ most_rows) }
+    ensures { (v : Version) (cs : List Column) (d : Condition) → shape.now.total ≤ length cs → option_of result ≡ fixed (question_with v shape.now cs d change.now) i c }
 {
-    match q.change.verb {
+    match change.verb {
         Verb::Insert => {
-            let count = q.change.count;
+            let count = change.count;
             if count <= i {
                 return None;
             }
-            let row = row_at(&q.change.rows, count, i);
-            row_value(&row.values, q.shape.first, q.shape.width, c)
+            let row = row_at(&change.rows, count, i);
+            row_value(&row.values, shape.first, shape.width, c)
         }
         Verb::Delete | Verb::Modify => None,
     }

@@ -1,5 +1,5 @@
 // What is asked, by its number and by its word (FORMAT 6.1, 9.4).
-ghost use Rattle.std.specs.Prelude.{◌≡◌, Some};
+ghost use Rattle.std.specs.Prelude.{◌≡◌, Some, eqb};
 ghost use Rattle.question.specs.Held.{asked_of};
 ghost use Rattle.question.specs.Asking.{word_of};
 
@@ -14,6 +14,18 @@ impl Asked {
         match self {
             Asked::Irrelevant => 1,
             Asked::Computable => 2,
+        }
+    }
+}
+
+// A number becomes what it asks for; each but 1 asks for what 2 does, as in the formulas that the pages give for it.
+impl From<u8> for Asked {
+    ghost from_gives = { λ number asked. eqb (asked_of asked) 1 ≡ eqb number 1 };
+
+    fn from(number: u8) -> Asked {
+        match number {
+            1 => Asked::Irrelevant,
+            _ => Asked::Computable,
         }
     }
 }

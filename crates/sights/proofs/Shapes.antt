@@ -2,7 +2,7 @@
 use mathlib.Core.Path.{◌≡◌, refl, sym, ap, ap₂, ◌∙◌}
 use mathlib.Core.Bool.{Bool, true, false, ◌||◌}
 use mathlib.Core.List.{List, [], ◌∷◌, map}
-use Prim.Native.Nat.{ℕ, zero, suc, ◌+◌, ◌<◌}
+use Prim.Native.Nat.{ℕ, zero, suc, ◌+◌, ◌≤◌, ◌<◌}
 use native.Mathlib.Omega.{arith}
 use borrow.Author.Tests.{eq-eqb, ne_eqb}
 use lib.ListN.{length, get_or, take, drop, length-map, get_or-map}
@@ -11,13 +11,24 @@ use Rattle.page_meaning.specs.Contents.{Range, columns, first}
 use Rattle.page_questions.specs.Layout.{total, visible_from, question_from}
 use Rattle.page_questions.specs.Layout as L
 use Rattle.page_questions.proofs.Layouts.{width_there, table_length, columns_from, first_from}
-use Rattle.question.specs.Held.{column_of, ranges_of, widths_of, question_of}
+use Rattle.question.specs.Held.{column_of, ranges_of, widths_of, question_with, question_of, ShapeHeld}
 use Rattle.question.specs.Held as H
+use Rattle.question.specs.declared.types.Change.{Change}
+use Rattle.question.specs.declared.types.Column.{Column}
+use Rattle.question.specs.declared.types.Condition.{Condition}
 use Rattle.question.specs.declared.types.Question.{Question}
+use Rattle.question.specs.declared.types.Shape.{Shape}
+use Rattle.question.specs.declared.types.Version.{Version}
 use Rattle.page_formulas.specs.Formulas.{among}
 use Rattle.sights.specs.Sights.{no_range, Whole, no_column}
 
 -- ---- its tables
+
+-- where the changed table starts, in any question of this shape
+pub first_with : (v : Version) (h : Shape) (cs : List Column) (d : Condition) (ch : Change) → ShapeHeld h → h.total ≤ length cs → first (question_with v h cs d ch) ≡ h.first
+first_with v h cs d ch held l =
+    let all : length (map column_of (take h.total cs)) ≡ total (widths_of h) = omega (arith, length-map (take h.total cs) column_of, length-take-le h.total cs l, held.total) in
+    first_from (widths_of h) h.changed (map column_of (take h.total cs)) (width_there (widths_of h) h.changed (omega (arith, held.some_column, held.width))) all (H.version_of v) (H.condition_of d) (H.change_of h.width ch) ∙ sym held.first
 
 module _ (q : Question) (w : Whole q) where
   pub ranges_length : length (ranges_of q) ≡ q.shape.total
@@ -38,7 +49,7 @@ module _ (q : Question) (w : Whole q) where
 
   pub first_is : first (question_of q) ≡ q.shape.first
   unfolding question_of
-  first_is = first_from (widths_of q.shape) q.shape.changed (H.columns_of q) inside whole _ _ _ ∙ sym w.held.shape.first
+  first_is = first_with q.version q.shape q.columns q.condition q.change w.held.shape (omega (arith, w.long, w.held.shape.few_columns))
 
   pub changed_is : (question_of q).changed ≡ take q.shape.width (drop q.shape.first (ranges_of q))
   unfolding question_of question_from

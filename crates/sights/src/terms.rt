@@ -34,7 +34,7 @@ pub fn whole(q: &Question)
 
 // The vertex of a question's column. `Sight::vertex` stands beside it: each is one line over `vertex_of`, of another value.
 pub fn vertex_at(q: &Question, second: bool, i: u8) -> u8
-    requires { Whole q.now × There q.now i }
+    requires { There q.now i }
     ensures { result ≡ (row_sight (question_of q.now) second i).vertex }
 {
     let at = i as usize;

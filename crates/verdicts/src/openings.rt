@@ -1,5 +1,5 @@
 // The first formula that is open.
-ghost use Rattle.question.specs.Held.{asked_of, question_of};
+ghost use Rattle.question.specs.Held.{question_of};
 ghost use Rattle.page_sheets.specs.Sheet.{finding_of};
 ghost use Rattle.verdicts.specs.Finding.{Finds, Shown};
 
@@ -15,9 +15,10 @@ pub struct Found {
     pub values: [i64; VERTICES],
 }
 
-pub fn first_open(q: &Question, asked: Asked) -> Option<Found>
-    ensures { Finds (finding_of (question_of q.now) (asked_of asked)) result × Shown (question_of q.now) (asked_of asked) result }
+pub fn first_open(q: &Question, asked: u8) -> Option<Found>
+    ensures { Finds (finding_of (question_of q.now) asked) result × Shown (question_of q.now) asked result }
 {
+    let asked = Asked::from(asked);
     for i in 0..formula_count(q, asked) {
         let f = outline(q, asked, i);
         if let Some(values) = formula_opens(&f) {

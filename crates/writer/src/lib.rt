@@ -2,26 +2,24 @@
 #![tactic(auto)]
 
 ghost use Rattle.std.specs.Prelude.{◌≡◌, IfOk};
-ghost use Rattle.question.specs.Held.{Held, question_of, asked_of};
-ghost use Rattle.page_questions.specs.Guarantees.{Accepted};
+ghost use Rattle.question.specs.Held.{question_of};
 ghost use Rattle.page_sheets.specs.Answers.{placed};
 ghost use Rattle.page_sheets.specs.Sheet.{verdict_for, finding_of, sheet_of};
 ghost use Rattle.outcome.specs.Answers.{verdict_of, done_of};
 ghost use Rattle.room.specs.Room.{begun, filling, puts};
 
 use outcome::{Sheet, Verdict};
-use question::types::{Asked, Question};
+use question::types::Question;
 use refusal::{Fault, Refusal};
 use room::{Full, Sink, clear};
 use verdicts::openings::first_open;
 use writer_sheets::{put_no, put_yes};
 
 // The sheet, as far as it fits. The verdict comes first, so that only that sheet's bytes are worked out.
-fn lay(sink: &mut Sink, q: &Question, asked: Asked) -> Result<Verdict, Full>
-    requires { Held q.now × Accepted (question_of q.now) }
+fn lay(sink: &mut Sink, q: &Question, asked: u8) -> Result<Verdict, Full>
     ensures same_reference { sink.new.room.ghost_name ≡ sink.old.room.ghost_name }
-    ensures says { IfOk result (λ v. verdict_of v ≡ verdict_for (finding_of (question_of q.now) (asked_of asked))) }
-    ensures filled { filling sink.new result ≡ puts (begun sink.old) (sheet_of (question_of q.now) (asked_of asked)) }
+    ensures says { IfOk result (λ v. verdict_of v ≡ verdict_for (finding_of (question_of q.now) asked)) }
+    ensures filled { filling sink.new result ≡ puts (begun sink.old) (sheet_of (question_of q.now) asked) }
 {
     match first_open(q, asked) {
         Some(found) => {
@@ -36,9 +34,8 @@ fn lay(sink: &mut Sink, q: &Question, asked: Asked) -> Result<Verdict, Full>
 }
 
 // The sheet and zeros after it; zeros only, where the sheet is longer than the room.
-pub fn finish(room: &mut [u8], q: &Question, asked: Asked) -> Result<Sheet, Refusal>
-    requires { Held q.now × Accepted (question_of q.now) }
-    ensures { done_of result room.new ≡ placed (verdict_for (finding_of (question_of q.now) (asked_of asked))) (sheet_of (question_of q.now) (asked_of asked)) room.old }
+pub fn finish(room: &mut [u8], q: &Question, asked: u8) -> Result<Sheet, Refusal>
+    ensures { done_of result room.new ≡ placed (verdict_for (finding_of (question_of q.now) asked)) (sheet_of (question_of q.now) asked) room.old }
 {
     let mut sink = Sink::new(room);
     match lay(&mut sink, q, asked) {

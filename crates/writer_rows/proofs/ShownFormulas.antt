@@ -11,12 +11,8 @@ use Rattle.page_meaning.specs.Contents.{Values, ◌∈◌, Table, Change, insert
 use Rattle.page_meaning.specs.Claims.{unless_alone}
 use Rattle.page_meaning.specs.WellFormed.{WellFormed, ChangeOk}
 use Rattle.page_meaning.proofs.MovedRows.{fits_length}
-use Rattle.question.specs.Held.{question_of}
-use Rattle.question.specs.declared.types.Question as D
 use Rattle.page_formulas.specs.Formulas.{Formula, irrelevance, computability, formulas}
-use Rattle.sights.specs.Sights.{Whole}
 use Rattle.page_sheets.specs.Rows.{Wide}
-use Rattle.writer_rows.specs.Rows.{Showable}
 
 module _ (q : Question) where
   unless_few : (ts us : List Table) (Fs : List Formula) (i : ℕ) → i < length (unless_alone ts us Fs) → i < length Fs
@@ -38,5 +34,5 @@ module _ (q : Question) where
   wide (delete d) ok b i h = tt
   wide (modify d ms) ok b i h = tt
 
-pub showable : (q : D.Question) → Whole q → WellFormed (question_of q) → (asked i : ℕ) → i < length (formulas (question_of q) asked) → Showable q i
-showable q w ok asked i h = record { whole = w; wide = wide (question_of q) (question_of q).change ok (eqb asked 1) i h }
+  pub wide_at : WellFormed q → (asked i : ℕ) → i < length (formulas q asked) → Wide q q.change i
+  wide_at ok asked i h = wide q.change ok (eqb asked 1) i h

@@ -17,36 +17,36 @@ use Rattle.question.specs.Held.{question_of}
 use Rattle.question.specs.declared.types.Question as D
 use Rattle.page_formulas.specs.Formulas.{Formula, among, second_sight, row_of1, row_of2}
 use Rattle.page_formulas.specs.Program as P
-use Rattle.sights.specs.Sights.{row_sight}
+use Rattle.sights.specs.Sights.{Whole, row_sight}
 use Rattle.sights.proofs.Shapes.{columns_length}
 use Rattle.page_sheets.specs.Rows.{width, put_row, first_row, second_row, bytes_of_row, fixed, Rowed, Wide, or_else}
 use Rattle.page_sheets.proofs.AlikeRows.{rows_alike}
 use Rattle.page_sheets.proofs.Columns.{first_value, second_value}
 use Rattle.page_sheets.proofs.Values.{tabulate_length}
 use Rattle.room.specs.Room.{Filling, puts}
-use Rattle.writer_rows.specs.Rows.{row_for, rows_for, Showable, Carries}
+use Rattle.writer_rows.specs.Rows.{row_for, rows_for, Carries}
 use Rattle.room.proofs.PutBytes.{puts_append}
 
 -- ---- a row's columns
 
-module _ (q : D.Question) (i : ℕ) (s : Showable q i) (x : P.Values) (c : ℕ) (h : c < q.shape.total) where
+module _ (q : D.Question) (i : ℕ) (whole : Whole q) (s : Wide (question_of q) (question_of q).change i) (x : P.Values) (c : ℕ) (h : c < q.shape.total) where
   inside : c < width (question_of q)
-  inside = omega (arith, columns_length q s.whole)
+  inside = omega (arith, columns_length q whole)
 
   -- the vertex is one of the few
   pub vertex_few : (second : Bool) → (row_sight (question_of q) second c).vertex < most_vertices
-  vertex_few false = omega (arith, s.whole.held.shape.few_columns)
+  vertex_few false = omega (arith, whole.held.shape.few_columns)
   vertex_few true = go (among (question_of q).visible c)
     where
       go : (b : Bool) → cond b (suc c) (suc (width (question_of q) + c)) < most_vertices
-      go true = omega (arith, s.whole.held.shape.few_columns)
-      go false = omega (arith, s.whole.held.shape.few_columns, columns_length q s.whole)
+      go true = omega (arith, whole.held.shape.few_columns)
+      go false = omega (arith, whole.held.shape.few_columns, columns_length q whole)
 
   pub second_column : (second : Bool) → second ≡ true → x (row_sight (question_of q) second c).vertex ≡ look (row_for (question_of q) i second x) c
   second_column second e = rw e (sym (second_value (question_of q) x c inside))
 
   pub first_column : (second : Bool) → second ≡ false → or_else (fixed (question_of q) i c) (x (row_sight (question_of q) second c).vertex) ≡ look (row_for (question_of q) i second x) c
-  first_column second e = rw e (sym (first_value (question_of q) i x s.wide c inside))
+  first_column second e = rw e (sym (first_value (question_of q) i x s c inside))
 
 first_length : (q : Question) (i : ℕ) (x : P.Values) → Wide q q.change i → length (first_row q i x) ≡ width q
 first_length q i x w = go q.change w
@@ -68,9 +68,9 @@ first_length q i x w = go q.change w
     go (delete d) e = plain
     go (modify d ms) e = plain
 
-pub row_length : (q : D.Question) (i : ℕ) → Showable q i → (second : Bool) (x : P.Values) → length (row_for (question_of q) i second x) ≡ q.shape.total
-row_length q i s false x = first_length (question_of q) i x s.wide ∙ columns_length q s.whole
-row_length q i s true x = tabulate_length (width (question_of q)) (λ j. x (second_sight (question_of q) j).vertex) ∙ columns_length q s.whole
+pub row_length : (q : D.Question) (i : ℕ) → Whole q → Wide (question_of q) (question_of q).change i → (second : Bool) (x : P.Values) → length (row_for (question_of q) i second x) ≡ q.shape.total
+row_length q i whole s false x = first_length (question_of q) i x s ∙ columns_length q whole
+row_length q i whole s true x = tabulate_length (width (question_of q)) (λ j. x (second_sight (question_of q) j).vertex) ∙ columns_length q whole
 
 -- ---- bytes
 

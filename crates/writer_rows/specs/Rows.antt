@@ -2,13 +2,10 @@
 use Rattle.std.specs.Prelude.{ℕ, ◌≡◌, Bool, cond, [], ◌++◌, T}
 use Rattle.page_meaning.specs.Contents.{Values, look}
 use Rattle.page_meaning.specs.Contents as M
-use Rattle.question.specs.Held.{question_of}
-use Rattle.question.specs.declared.types.Question.{Question}
 use Rattle.page_formulas.specs.Program as P
 use Rattle.page_formulas.specs.Formulas.{row_of2}
 use Rattle.page_formulas.specs.Vertices.{Ranges, present}
-use Rattle.sights.specs.Sights.{Whole}
-use Rattle.page_sheets.specs.Rows.{first_row, Wide}
+use Rattle.page_sheets.specs.Rows.{first_row}
 
 -- the first or the second row
 abbrev pub row_for : M.Question → ℕ → Bool → P.Values → Values
@@ -17,11 +14,6 @@ row_for q i second x = cond second (row_of2 q x) (first_row q i x)
 -- the value of every column of the first row, then of the second where the formula has two
 abbrev pub rows_for : M.Question → ℕ → Bool → P.Values → Values
 rows_for q i pairs x = first_row q i x ++ cond pairs (row_of2 q x) []
-
--- a question that was read; where it inserts, formula i's row has a value for each column of the changed table
-pub record Showable (q : Question) (i : ℕ) : Type 0 where
-  pub whole : Whole q
-  pub wide : Wide (question_of q) (question_of q).change i
 
 -- the code's values are those at the formula's vertices
 abbrev pub Carries : Ranges → Values → P.Values → Type 0

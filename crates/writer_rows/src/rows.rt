@@ -7,16 +7,15 @@ ghost use Rattle.page_meaning.specs.Contents.{look};
 ghost use Rattle.question.specs.Held.{question_of};
 ghost use Rattle.page_formulas.specs.Formulas.{Formula};
 ghost use Rattle.page_formulas.specs.Program.{Values};
-ghost use Rattle.sights.specs.Sights.{Whole};
-ghost use Rattle.page_sheets.specs.Rows.{fixed, or_else, bytes_of_row, no_bytes, Rowed};
+ghost use Rattle.page_sheets.specs.Rows.{fixed, or_else, bytes_of_row, no_bytes, Rowed, Wide};
 ghost use Rattle.room.specs.Room.{begun, filling, puts};
-ghost use Rattle.writer_rows.specs.Rows.{row_for, rows_for, Showable, Carries};
+ghost use Rattle.writer_rows.specs.Rows.{row_for, rows_for, Carries};
 
 use inserted::fixed_at;
 use limits::VERTICES;
 use question::types::Question;
 use room::{Full, Sink};
-use sights::terms::vertex_at;
+use sights::terms::{vertex_at, whole};
 
 // The 32 bits of a value.
 fn low_bits(z: i64) -> u64
@@ -40,10 +39,10 @@ fn put_value(sink: &mut Sink, z: i64) -> Result<(), Full>
 
 // The inserted value, where there is one.
 fn change_value(q: &Question, i: usize, c: usize, z: i64) -> i64
-    requires { Whole q.now }
     ensures { result ≡ or_else (fixed (question_of q.now) i c) z }
 {
-    match fixed_at(q, i, c) {
+    whole(q);
+    match fixed_at(&q.shape, &q.change, i, c) {
         Some(k) => k as i64,
         None => z,
     }
@@ -51,9 +50,10 @@ fn change_value(q: &Question, i: usize, c: usize, z: i64) -> i64
 
 // Column c of a row of formula i, from the values at its vertices.
 fn value_at(q: &Question, i: usize, second: bool, values: &[i64; VERTICES], c: usize) -> i64
-    requires { Showable q.now i × (c < q.now.shape.total) }
+    requires { Wide (question_of q.now) (question_of q.now).change i × (c < q.now.shape.total) }
     ensures { result ≡ look (row_for (question_of q.now) i second (look values.now)) c }
 {
+    whole(q);
     let v = vertex_at(q, second, c as u8) as usize;
     let z = values[v];
     if second {
@@ -70,10 +70,11 @@ fn put_row(
     second: bool,
     values: &[i64; VERTICES],
 ) -> Result<(), Full>
-    requires { Showable q.now i }
+    requires { Wide (question_of q.now) (question_of q.now).change i }
     ensures same_reference { sink.new.room.ghost_name ≡ sink.old.room.ghost_name }
     ensures filled { filling sink.new result ≡ puts (begun sink.old) (bytes_of_row (row_for (question_of q.now) i second (look values.now))) }
 {
+    whole(q);
     for c in 0..q.shape.total {
         put_value(sink, value_at(q, i, second, values, c))?;
     }
@@ -88,7 +89,7 @@ fn put_rows(
     pairs: bool,
     values: &[i64; VERTICES],
 ) -> Result<(), Full>
-    requires { Showable q.now i }
+    requires { Wide (question_of q.now) (question_of q.now).change i }
     ensures same_reference { sink.new.room.ghost_name ≡ sink.old.room.ghost_name }
     ensures filled { filling sink.new result ≡ puts (begun sink.old) (bytes_of_row (rows_for (question_of q.now) i pairs (look values.now))) }
 {
@@ -107,7 +108,7 @@ pub fn put_refutation(
     pairs: bool,
     values: &[i64; VERTICES],
 ) -> Result<(), Full>
-    requires { Showable q.now i }
+    requires { Wide (question_of q.now) (question_of q.now).change i }
     ensures same_reference { sink.new.room.ghost_name ≡ sink.old.room.ghost_name }
     ensures filled { (F : Formula) (x : Values) → F.pairs ≡ pairs → Rowed (question_of q.now) F → Carries F.ranges values.now x → filling sink.new result ≡ puts (begun sink.old) (no_bytes (question_of q.now) i F x) }
 {

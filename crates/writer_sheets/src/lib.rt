@@ -2,8 +2,7 @@
 #![tactic(auto)]
 
 ghost use Rattle.std.specs.Prelude.{◌≡◌, ◌<◌, List, [], ◌∷◌, length};
-ghost use Rattle.question.specs.Held.{Held, question_of, asked_of};
-ghost use Rattle.page_questions.specs.Guarantees.{Accepted};
+ghost use Rattle.question.specs.Held.{question_of, asked_of};
 ghost use Rattle.page_formulas.specs.Formulas.{formulas};
 ghost use Rattle.formula.specs.Formulas.{formula_at};
 ghost use Rattle.outcome.specs.Answers.{verdict_of};
@@ -19,22 +18,21 @@ use formula::formulas::{formula_count, outline};
 use outcome::Verdict;
 use question::types::{Asked, Question};
 use room::{Full, Sink};
-use sights::terms::whole;
 use writer_leaves::first_leaf;
 use writer_rows::rows::put_refutation;
 use writer_trees::trees::plant_formula;
 
 // Mark, version, asked, verdict.
-fn put_header(sink: &mut Sink, asked: Asked, verdict: Verdict) -> Result<(), Full>
+fn put_header(sink: &mut Sink, asked: u8, verdict: Verdict) -> Result<(), Full>
     ensures same_reference { sink.new.room.ghost_name ≡ sink.old.room.ghost_name }
-    ensures filled { filling sink.new result ≡ puts (begun sink.old) (header (asked_of asked) (verdict_of verdict)) }
+    ensures filled { filling sink.new result ≡ puts (begun sink.old) (header asked (verdict_of verdict)) }
 {
-    sink.put_all(&[b'V', b'U', b'S', 1, 0, asked.number(), verdict.byte()])
+    sink.put_all(&[b'V', b'U', b'S', 1, 0, asked, verdict.byte()])
 }
 
 // Formula i's tree.
 fn put_tree(sink: &mut Sink, q: &Question, asked: Asked, i: usize) -> Result<(), Full>
-    requires { Held q.now × Accepted (question_of q.now) × (i < length (formulas (question_of q.now) (asked_of asked))) }
+    requires { i < length (formulas (question_of q.now) (asked_of asked)) }
     ensures same_reference { sink.new.room.ghost_name ≡ sink.old.room.ghost_name }
     ensures grows { Grows (begun sink.old) (grow_tree last_vertex (formula_at (formulas (question_of q.now) (asked_of asked)) i)) (filling sink.new result) }
 {
@@ -43,7 +41,7 @@ fn put_tree(sink: &mut Sink, q: &Question, asked: Asked, i: usize) -> Result<(),
 
 // Every formula's tree, one after another.
 fn put_trees(sink: &mut Sink, q: &Question, asked: Asked) -> Result<(), Full>
-    requires { Held q.now × Accepted (question_of q.now) × AllShut (question_of q.now) (asked_of asked) }
+    requires { AllShut (question_of q.now) (asked_of asked) }
     ensures same_reference { sink.new.room.ghost_name ≡ sink.old.room.ghost_name }
     ensures filled { (ts : List Tree) → finding_of (question_of q.now) (asked_of asked) ≡ all_shut ts → filling sink.new result ≡ puts (begun sink.old) (bytes_all ts) }
 {
@@ -54,23 +52,22 @@ fn put_trees(sink: &mut Sink, q: &Question, asked: Asked) -> Result<(), Full>
 }
 
 // Where no formula is open.
-pub fn put_yes(sink: &mut Sink, q: &Question, asked: Asked) -> Result<(), Full>
-    requires { Held q.now × Accepted (question_of q.now) × AllShut (question_of q.now) (asked_of asked) }
+pub fn put_yes(sink: &mut Sink, q: &Question, asked: u8) -> Result<(), Full>
+    requires { AllShut (question_of q.now) asked }
     ensures same_reference { sink.new.room.ghost_name ≡ sink.old.room.ghost_name }
-    ensures filled { filling sink.new result ≡ puts (begun sink.old) (sheet_of (question_of q.now) (asked_of asked)) }
+    ensures filled { filling sink.new result ≡ puts (begun sink.old) (sheet_of (question_of q.now) asked) }
 {
     put_header(sink, asked, Verdict::Yes)?;
-    put_trees(sink, q, asked)
+    put_trees(sink, q, Asked::from(asked))
 }
 
 // Where this formula is the first that is open: the rows of its first open leaf.
-pub fn put_no(sink: &mut Sink, q: &Question, asked: Asked, number: usize) -> Result<(), Full>
-    requires { Held q.now × Accepted (question_of q.now) × OpenFirst (question_of q.now) (asked_of asked) number }
+pub fn put_no(sink: &mut Sink, q: &Question, asked: u8, number: usize) -> Result<(), Full>
+    requires { OpenFirst (question_of q.now) asked number }
     ensures same_reference { sink.new.room.ghost_name ≡ sink.old.room.ghost_name }
-    ensures filled { filling sink.new result ≡ puts (begun sink.old) (sheet_of (question_of q.now) (asked_of asked)) }
+    ensures filled { filling sink.new result ≡ puts (begun sink.old) (sheet_of (question_of q.now) asked) }
 {
-    whole(q);
     put_header(sink, asked, Verdict::No)?;
-    let f = outline(q, asked, number);
+    let f = outline(q, Asked::from(asked), number);
     put_refutation(sink, q, number as u8, f.pairs, &first_leaf(&f))
 }

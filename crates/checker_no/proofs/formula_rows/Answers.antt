@@ -5,7 +5,7 @@ use Rattle.checker_no.proofs.RowRun.{two_most, counted, rows_after}
 use Rattle.checker_no.proofs.formula_rows.Goals as goal
 
 pub fields-requires : goal.fields-requires
-fields-requires c = (c.whole.ensures, omega (arith, c.value_count-count.ensures, two_most c.args.f.now.pairs c.args.q.now.shape.total), c.requires.1)
+fields-requires c = (omega (arith, c.value_count-count.ensures, two_most c.args.f.now.pairs c.args.q.now.shape.total), c.requires.1)
 
 pub rows_end-requires : goal.rows_end-requires
 rows_end-requires c = (

@@ -1,6 +1,6 @@
 use borrow.Author.Rules.{rules}
 use mathlib.Core.Path.{◌≡◌, ap, ◌∙◌}
-use Rattle.question.specs.Held.{question_of, asked_of}
+use Rattle.question.specs.Held.{question_of}
 use Rattle.page_sheets.specs.Answers.{placed}
 use Rattle.page_sheets.specs.Sheet.{sheet_of}
 use Rattle.outcome.specs.Answers.{verdict_of}
@@ -10,11 +10,11 @@ use Rattle.writer.proofs.finish.Goals as goal
 use Rattle.writer.proofs.finish.Goals.{In-Ok, In-Err}
 
 -- what stands in the room when the sink ends
-laid : (c : In-Ok) → begun c.lay.new.sink ≡ puts (started c.args.room.now) (sheet_of (question_of c.args.q.now) (asked_of c.args.asked))
-laid c = c.in-Ok.ensures.filled ∙ ap (λ f. puts f (sheet_of (question_of c.args.q.now) (asked_of c.args.asked))) c.new-sink.ensures.start
+laid : (c : In-Ok) → begun c.lay.new.sink ≡ puts (started c.args.room.now) (sheet_of (question_of c.args.q.now) c.args.asked)
+laid c = c.in-Ok.ensures.filled ∙ ap (λ f. puts f (sheet_of (question_of c.args.q.now) c.args.asked)) c.new-sink.ensures.start
 
-over : (c : In-Err) → stopped c.lay.new.sink ≡ puts (started c.args.room.now) (sheet_of (question_of c.args.q.now) (asked_of c.args.asked))
-over c = c.in-Err.ensures.filled ∙ ap (λ f. puts f (sheet_of (question_of c.args.q.now) (asked_of c.args.asked))) c.new-sink.ensures.start
+over : (c : In-Err) → stopped c.lay.new.sink ≡ puts (started c.args.room.now) (sheet_of (question_of c.args.q.now) c.args.asked)
+over c = c.in-Err.ensures.filled ∙ ap (λ f. puts f (sheet_of (question_of c.args.q.now) c.args.asked)) c.new-sink.ensures.start
 
 pub clear-requires : goal.clear-requires
 clear-requires c = fits_in c.args.room.now _ c.lay.new.sink _ (search rules) (laid (goal.at.clear-requires c).In-Ok) c.length-length.result c.length-length.ensures
@@ -22,7 +22,7 @@ clear-requires c = fits_in c.args.room.now _ c.lay.new.sink _ (search rules) (la
 pub returns-in-Ok : goal.returns-in-Ok
 returns-in-Ok c =
     placed_whole c.args.room.now _ c.lay.new.sink _ (search rules) (laid (goal.at.returns-in-Ok c).In-Ok) (verdict_of c.in-Ok.verdict) c.length-length.result c.length-length.ensures c.clear.new.room c.clear.ensures
-    ∙ ap (λ v. placed v (sheet_of (question_of c.args.q.now) (asked_of c.args.asked)) c.args.room.now) c.in-Ok.ensures.says
+    ∙ ap (λ v. placed v (sheet_of (question_of c.args.q.now) c.args.asked) c.args.room.now) c.in-Ok.ensures.says
 
 pub returns-in-Err : goal.returns-in-Err
 returns-in-Err c = rw c.at.ensures (placed_none c.args.room.now _ _ _ c.clear-in-Err.new.room c.clear-in-Err.ensures c.lay.new.sink (search rules) (over (goal.at.returns-in-Err c).In-Err))

@@ -19,11 +19,11 @@ pub loop-i-init : goal.loop-i-init
 loop-i-init c = record { same_reference = refl; sown = sown_start _ _ _ }
 
 pub put_tree-requires : goal.put_tree-requires
-put_tree-requires c = (c.requires.0, c.requires.1, there (goal.at.put_tree-requires c).In-loop-i)
+put_tree-requires c = there (goal.at.put_tree-requires c).In-loop-i
 
 pub loop-i-preserved : goal.loop-i-preserved
 loop-i-preserved c = let l = c.loop-i in
-    let all = c.requires.2 in
+    let all = c.requires in
     let i = there (goal.at.loop-i-preserved c).In-loop-i in record {
       same_reference = search rules;
       sown = sown_more _ _ _ l.i (begun l.sink) l.invariant.sown all.0 all.1 i _ c.in_ok-put_tree.ensures.grows;

@@ -11,13 +11,13 @@ returns-then-j-n c = let a = c.args in
     let q = question_of a.q.now in
     let r = c.read_i32-z in
     let e = rw (to_z-of_z {w = w32} (record { sfits = r.type_inv }), r.ensures, c.field_at.ensures) at c.first_allows.ensures in
-    e ∙ sym (field_first q a.i a.sheet.now a.j (value_at a.sheet.now a.j) (omega (arith, columns_length a.q.now c.requires.0, c.if-j-n.true)))
+    e ∙ sym (field_first q a.i a.sheet.now a.j (value_at a.sheet.now a.j) (omega (arith, columns_length a.q.now c.whole.ensures, c.if-j-n.true)))
 
 pub returns : goal.returns
 returns c = let a = c.args in
     let q = question_of a.q.now in
     let b = a.sheet.now in
-    let n = columns_length a.q.now c.requires.0 in
+    let n = columns_length a.q.now c.whole.ensures in
     let r = c.read_i32-z in
     let o = c.read_i32-shared in
     let e : a.j ≡ width q + (a.j - a.q.now.shape.total) = omega (arith, n, c.if-j-n.false) in

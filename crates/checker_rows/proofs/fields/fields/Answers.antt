@@ -10,14 +10,14 @@ returns-then-sheet-place c = let l = c.loop-j in
     let a = c.args in
     let s = a.sheet.now in
     let e = c.field_at-place.ensures in
-    record { meaning = λ next. ap (refused 11) e ∙ sym (fields_short (field_ok (question_of a.q.now) a.i s) s a.count l.j next c.loop-j-test.true (omega (arith, e, c.if-sheet-place.true))) ∙ l.invariant.same next; inside = tt }
+    rw c.at.ensures (record { meaning = λ next. ap (refused 11) e ∙ sym (fields_short (field_ok (question_of a.q.now) a.i s) s a.count l.j next c.loop-j-test.true (omega (arith, e, c.if-sheet-place.true))) ∙ l.invariant.same next; inside = tt })
 
 pub returns-then-not-field_allows : goal.returns-then-not-field_allows
 returns-then-not-field_allows c = let l = c.loop-j in
     let a = c.args in
     let s = a.sheet.now in
     let e = c.field_at-place.ensures in
-    record { meaning = λ next. ap (refused 15) e ∙ sym (fields_bad (field_ok (question_of a.q.now) a.i s) s a.count l.j next c.loop-j-test.true (omega (arith, e, c.if-sheet-place.false)) (sym c.field_allows.ensures ∙ c.if-not-field_allows.true)) ∙ l.invariant.same next; inside = tt }
+    rw c.at-then-not-field_allows.ensures (record { meaning = λ next. ap (refused 15) e ∙ sym (fields_bad (field_ok (question_of a.q.now) a.i s) s a.count l.j next c.loop-j-test.true (omega (arith, e, c.if-sheet-place.false)) (sym c.field_allows.ensures ∙ c.if-not-field_allows.true)) ∙ l.invariant.same next; inside = tt })
 
 pub loop-j-preserved : goal.loop-j-preserved
 loop-j-preserved c = let l = c.loop-j in

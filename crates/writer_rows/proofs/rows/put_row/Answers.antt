@@ -21,7 +21,7 @@ row c = row_for (question_of c.args.q.now) c.args.i c.args.second (look c.args.v
 -- the next column is one of them
 next_there : (c : In-loop-c) → c.loop-c.c < length (row c)
 unfolding row
-next_there c = omega (arith, c.loop-c-test.true, row_length c.args.q.now c.args.i c.requires c.args.second (look c.args.values.now))
+next_there c = omega (arith, c.loop-c-test.true, row_length c.args.q.now c.args.i c.whole.ensures c.requires c.args.second (look c.args.values.now))
 
 pub loop-c-preserved : goal.loop-c-preserved
 unfolding row
@@ -43,4 +43,4 @@ pub returns-clause-filled : goal.returns-clause-filled
 returns-clause-filled c = let at = c.loop-c in
     let a = c.args in
     let row = row_for (question_of a.q.now) a.i a.second (look a.values.now) in
-    sym (row_end (begun at.sink) row at.c (omega (arith, c.loop-c-test.false, row_length a.q.now a.i c.requires a.second (look a.values.now)))) ∙ at.invariant.to_come
+    sym (row_end (begun at.sink) row at.c (omega (arith, c.loop-c-test.false, row_length a.q.now a.i c.whole.ensures c.requires a.second (look a.values.now)))) ∙ at.invariant.to_come
