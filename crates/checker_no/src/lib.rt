@@ -70,5 +70,7 @@ pub fn no_sheet(q: &Question, asked: u8, sheet: &[u8]) -> Result<Verdict, Refusa
     if formula_count(q, asked) <= i {
         return Err(Fault::SheetCode.at(NUMBER));
     }
-    formula_rows(q, i, &outline(q, asked, i), sheet)
+    let mut f = Formula::EMPTY;
+    outline(&mut f, q, asked, i);
+    formula_rows(q, i, &f, sheet)
 }

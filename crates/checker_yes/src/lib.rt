@@ -11,6 +11,7 @@ ghost use Rattle.outcome.specs.Answers.{judged_of};
 use checker_trees::formulas::formula_tree;
 use formula::formulas::{formula_count, outline};
 use outcome::Verdict;
+use program::types::Formula;
 use question::types::{Asked, Question};
 use refusal::{Fault, Refusal};
 
@@ -20,9 +21,11 @@ pub fn yes_sheet(q: &Question, asked: u8, sheet: &[u8]) -> Result<Verdict, Refus
     ensures { judged_of result ≡ check_yes most_vertices (formulas (question_of q.now) asked) sheet.now }
 {
     let asked = Asked::from(asked);
+    let mut f = Formula::EMPTY;
     let mut at: usize = 7;
     for i in 0..formula_count(q, asked) {
-        match formula_tree(&outline(q, asked, i), &sheet[at..]) {
+        outline(&mut f, q, asked, i);
+        match formula_tree(&f, &sheet[at..]) {
             Ok(length) => at += length,
             Err(r) => return Err(r.fault.at(at + r.place)),
         }

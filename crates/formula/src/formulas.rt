@@ -10,26 +10,23 @@ ghost use Rattle.formula.specs.Formulas.{formula_at};
 use formula_claims::claims::line;
 use formula_contexts::contexts::Context;
 use formula_lines::lines::line_at;
-use program::types::{Formula, Program};
+use program::types::Formula;
 use question::types::{Asked, Change, Column, Condition, Question, Shape, Verb, Version};
 use sights::terms::whole;
 use vertices::vertices;
 
-// Formula i of an accepted question.
-pub fn outline(q: &Question, asked: Asked, i: usize) -> Formula
+// Formula i of an accepted question, in the place of what stood there: a question's formulas are made in one place, one after another.
+pub fn outline(into: &mut Formula, q: &Question, asked: Asked, i: usize)
     requires { i < length (formulas (question_of q.now) (asked_of asked)) }
-    ensures { Compiled result (formula_at (formulas (question_of q.now) (asked_of asked)) i) × Long result.program }
+    ensures { Compiled into.new (formula_at (formulas (question_of q.now) (asked_of asked)) i) × Long into.new.program }
 {
     whole(q);
     let entry = line_at(q.version, q.change.verb, asked, i);
     let pairs = entry.pairs;
-    let mut formula = Formula {
-        program: Program::new(),
-        pairs,
-        vertices: vertices(&q.columns[..q.shape.total], pairs),
-    };
-    line(&mut formula.program, &Context::of(q, i, pairs), &entry);
-    formula
+    into.pairs = pairs;
+    into.vertices = vertices(&q.columns[..q.shape.total], pairs);
+    into.program.clear();
+    line(&mut into.program, &Context::of(q, i, pairs), &entry);
 }
 
 // FORMAT 5.3: asked 2, an insert into the only table has none. Of a question it reads the tables and the change.

@@ -4,21 +4,8 @@ ghost use Rattle.page_formulas.specs.Costs.{most_instructions};
 ghost use Rattle.goals.specs.Goals.{waiting};
 
 use crate::types::{Goal, State};
-use grid::Grid;
-use limits::INSTRUCTIONS;
 
 impl State {
-    // Facts, under which nothing is wanted yet.
-    pub fn new(near: Grid) -> State
-        ensures { (result.near.rows ≡ near.rows) × (waiting result ≡ []) }
-    {
-        State {
-            near,
-            goals: [Goal { at: 0, want: false }; INSTRUCTIONS],
-            count: 0,
-        }
-    }
-
     pub fn push(&mut self, g: Goal)
         requires { self.old.count < most_instructions }
         ensures { (self.new.near.rows ≡ self.old.near.rows) × (waiting self.new ≡ g ∷ waiting self.old) }

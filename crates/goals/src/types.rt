@@ -9,6 +9,9 @@ pub struct Goal {
     pub want: bool,
 }
 
+// What stands where no goal waits.
+pub const NO_GOAL: Goal = Goal { at: 0, want: false };
+
 // Facts, and goals that wait: the first `count`.
 #[derive(Clone, Copy)]
 pub struct State {

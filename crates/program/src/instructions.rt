@@ -9,22 +9,26 @@ ghost use Rattle.question.specs.Held.{op_of};
 ghost use Rattle.program.specs.Meanings.{instr_of, place_of, term_of, instructions_of, places_of, Bare};
 ghost use Rattle.program.specs.Built.{Long, Room, Builds, Means};
 
-use crate::types::{Instruction, NOWHERE, Place, Program, Term};
+use crate::types::{Formula, Instruction, NOWHERE, Place, Program, Term, Vertices};
 use ints::weights::{difference, sum};
-use limits::{INSTRUCTIONS, PLACES};
+use limits::{INSTRUCTIONS, PLACES, VERTICES};
 use question::types::Op;
 
 impl Program {
-    // No instruction yet.
-    pub fn new() -> Program
-        ensures { Means result [] × Long result }
+    // Room for a program: no instruction yet.
+    pub const EMPTY: Program = Program {
+        instructions: [Instruction::True; INSTRUCTIONS],
+        length: 0,
+        places: [NOWHERE; PLACES],
+        decisions: 0,
+    };
+
+    // No instruction any more.
+    pub fn clear(&mut self)
+        ensures { Means self.new [] × Long self.new }
     {
-        Program {
-            instructions: [Instruction::True; INSTRUCTIONS],
-            length: 0,
-            places: [NOWHERE; PLACES],
-            decisions: 0,
-        }
+        self.length = 0;
+        self.decisions = 0;
     }
 
     pub fn instructions(&self) -> &[Instruction]
@@ -111,4 +115,16 @@ impl Program {
             }
         }
     }
+}
+
+impl Formula {
+    // Room for a formula: no instruction and no vertex yet.
+    pub const EMPTY: Formula = Formula {
+        program: Program::EMPTY,
+        pairs: false,
+        vertices: Vertices {
+            count: 0,
+            ranges: [None; VERTICES],
+        },
+    };
 }

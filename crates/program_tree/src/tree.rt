@@ -6,14 +6,7 @@ ghost use Rattle.program_tree.specs.Nodes.{size_at, first_at, size_for, Reading,
 
 use crate::types::{Node, Tree};
 use limits::INSTRUCTIONS;
-use program::types::{Instruction, Place, Program};
-
-// What stands where there is no place.
-const NOWHERE: Place = Place {
-    left: 0,
-    right: 0,
-    most: 0,
-};
+use program::types::{Instruction, NOWHERE, Program};
 
 // What stands where there is no instruction.
 const BLANK: Node = Node {
@@ -23,19 +16,21 @@ const BLANK: Node = Node {
 };
 
 impl Tree {
-    // Of a program, with the last vertex of its formula. The loop stands apart: the compiler then puts this into its caller, where a
-    // tree that a function returns would be copied.
-    pub fn plant(program: &Program, last: usize) -> Tree
+    // Room for a tree: no node yet. An array and a count, since nothing here takes memory from a heap.
+    pub const EMPTY: Tree = Tree {
+        nodes: [BLANK; INSTRUCTIONS],
+        count: 0,
+        last: 0,
+    };
+
+    // Of a program, with the last vertex of its formula, in the place of what stood there.
+    pub fn plant(&mut self, program: &Program, last: usize)
         requires { Plantable program.now }
-        ensures { Planted program.now last result }
+        ensures { Planted program.now last self.new }
     {
-        let mut tree = Tree {
-            nodes: [BLANK; INSTRUCTIONS],
-            count: program.length,
-            last,
-        };
-        tree.fill(program);
-        tree
+        self.count = program.length;
+        self.last = last;
+        self.fill(program);
     }
 
     // The nodes of a program.

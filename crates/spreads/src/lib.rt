@@ -11,18 +11,17 @@ ghost use Rattle.spreads.specs.Spread.{span, apart, spread};
 
 use grid::Grid;
 use limits::VERTICES;
-use program::types::{Range, Vertices};
+use program::types::{ONLY_ZERO, Range, Vertices};
 
 // What a vertex ranges over: vertex 0 over 0 alone, whatever is written for it.
 fn span(vertices: &Vertices, v: usize) -> Range
     requires { v < most_vertices }
     ensures { result ≡ span vertices.now.ranges v }
 {
-    let zero = Range { lo: 0, hi: 0 };
     if v == 0 {
-        return zero;
+        return ONLY_ZERO;
     }
-    vertices.ranges[v].unwrap_or(zero)
+    vertices.ranges[v].unwrap_or(ONLY_ZERO)
 }
 
 // The highest values of all vertices, so that no row has to look whether they are there.

@@ -9,7 +9,7 @@ ghost use Rattle.goals.specs.Closures.{Tight};
 ghost use Rattle.goals.specs.Goals.{waiting, TrueAt, TrueUnder, Opens};
 
 use crate::search::solve;
-use goals::types::{Goal, State};
+use goals::types::{NO_GOAL, State};
 use grid::Grid;
 use limits::{INSTRUCTIONS, VERTICES};
 use program::types::Formula;
@@ -25,11 +25,15 @@ fn open(tree: &Tree, state: &mut State) -> Option<[i64; VERTICES]>
 }
 
 // Of a formula's tree, under the facts of a closure.
-pub fn opens_under(tree: &Tree, near: Grid) -> Option<[i64; VERTICES]>
-    requires { ((p : Program) × Tells tree.now p) × Tight (suc tree.now.last) near.rows }
-    ensures { (p : Program) → Tells tree.now p → Opens result (TrueUnder p tree.now.last near.rows) }
+pub fn opens_under(tree: &Tree, near: &Grid) -> Option<[i64; VERTICES]>
+    requires { ((p : Program) × Tells tree.now p) × Tight (suc tree.now.last) near.now.rows }
+    ensures { (p : Program) → Tells tree.now p → Opens result (TrueUnder p tree.now.last near.now.rows) }
 {
-    let mut state = State::new(near);
+    let mut state = State {
+        near: *near,
+        goals: [NO_GOAL; INSTRUCTIONS],
+        count: 0,
+    };
     open(tree, &mut state)
 }
 
@@ -38,13 +42,14 @@ pub fn formula_opens(f: &Formula) -> Option<[i64; VERTICES]>
     requires { Fine f.now }
     ensures { (F : written.Formula) → Compiled f.now F → Proper F → Opens result (TrueAt F) }
 {
-    let tree = Tree::plant(&f.program, f.vertices.count - 1);
+    let mut tree = Tree::EMPTY;
+    tree.plant(&f.program, f.vertices.count - 1);
     // made in place, since a state that a function returns is copied
     let mut state = State {
         near: Grid {
             rows: [[0; VERTICES]; VERTICES],
         },
-        goals: [Goal { at: 0, want: false }; INSTRUCTIONS],
+        goals: [NO_GOAL; INSTRUCTIONS],
         count: 0,
     };
     begin(&mut state.near, &f.vertices);

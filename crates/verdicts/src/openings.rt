@@ -5,6 +5,7 @@ ghost use Rattle.verdicts.specs.Finding.{Finds, Shown};
 
 use formula::formulas::{formula_count, outline};
 use limits::VERTICES;
+use program::types::Formula;
 use question::types::{Asked, Question};
 use tableau::openings::formula_opens;
 
@@ -19,8 +20,9 @@ pub fn first_open(q: &Question, asked: u8) -> Option<Found>
     ensures { Finds (finding_of (question_of q.now) asked) result × Shown (question_of q.now) asked result }
 {
     let asked = Asked::from(asked);
+    let mut f = Formula::EMPTY;
     for i in 0..formula_count(q, asked) {
-        let f = outline(q, asked, i);
+        outline(&mut f, q, asked, i);
         if let Some(values) = formula_opens(&f) {
             return Some(Found { number: i, values });
         }

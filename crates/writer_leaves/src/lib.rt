@@ -35,7 +35,7 @@ fn opens_with(tree: &Tree, near: &Grid, e: Edge) -> Option<Grid>
     }
     let mut closer = *near;
     relax_in(&mut closer, tree.last + 1, e);
-    opens_under(tree, closer)?;
+    opens_under(tree, &closer)?;
     Some(closer)
 }
 
@@ -77,6 +77,7 @@ pub fn first_leaf(f: &Formula) -> [i64; VERTICES]
 {
     let mut near = Grid::blank();
     begin(&mut near, &f.vertices);
-    let tree = Tree::plant(&f.program, f.vertices.count - 1);
+    let mut tree = Tree::EMPTY;
+    tree.plant(&f.program, f.vertices.count - 1);
     descend(f.program.instructions(), f.program.places(), &tree, &near)
 }

@@ -16,6 +16,7 @@ ghost use Rattle.writer_sheets.specs.Starts.{AllShut, OpenFirst};
 
 use formula::formulas::{formula_count, outline};
 use outcome::Verdict;
+use program::types::Formula;
 use question::types::{Asked, Question};
 use room::{Full, Sink};
 use writer_leaves::first_leaf;
@@ -30,13 +31,20 @@ fn put_header(sink: &mut Sink, asked: u8, verdict: Verdict) -> Result<(), Full>
     sink.put_all(&[b'V', b'U', b'S', 1, 0, asked, verdict.byte()])
 }
 
-// Formula i's tree.
-fn put_tree(sink: &mut Sink, q: &Question, asked: Asked, i: usize) -> Result<(), Full>
+// Formula i's tree; the formula is made in the place that is lent.
+fn put_tree(
+    sink: &mut Sink,
+    into: &mut Formula,
+    q: &Question,
+    asked: Asked,
+    i: usize,
+) -> Result<(), Full>
     requires { i < length (formulas (question_of q.now) (asked_of asked)) }
     ensures same_reference { sink.new.room.ghost_name ≡ sink.old.room.ghost_name }
     ensures grows { Grows (begun sink.old) (grow_tree last_vertex (formula_at (formulas (question_of q.now) (asked_of asked)) i)) (filling sink.new result) }
 {
-    plant_formula(sink, &outline(q, asked, i))
+    outline(into, q, asked, i);
+    plant_formula(sink, into)
 }
 
 // Every formula's tree, one after another.
@@ -45,8 +53,9 @@ fn put_trees(sink: &mut Sink, q: &Question, asked: Asked) -> Result<(), Full>
     ensures same_reference { sink.new.room.ghost_name ≡ sink.old.room.ghost_name }
     ensures filled { (ts : List Tree) → finding_of (question_of q.now) (asked_of asked) ≡ all_shut ts → filling sink.new result ≡ puts (begun sink.old) (bytes_all ts) }
 {
+    let mut f = Formula::EMPTY;
     for i in 0..formula_count(q, asked) {
-        put_tree(sink, q, asked, i)?;
+        put_tree(sink, &mut f, q, asked, i)?;
     }
     Ok(())
 }
@@ -68,6 +77,7 @@ pub fn put_no(sink: &mut Sink, q: &Question, asked: u8, number: usize) -> Result
     ensures filled { filling sink.new result ≡ puts (begun sink.old) (sheet_of (question_of q.now) asked) }
 {
     put_header(sink, asked, Verdict::No)?;
-    let f = outline(q, Asked::from(asked), number);
+    let mut f = Formula::EMPTY;
+    outline(&mut f, q, Asked::from(asked), number);
     put_refutation(sink, q, number as u8, f.pairs, &first_leaf(&f))
 }

@@ -28,8 +28,8 @@ pub line-requires : goal.line-requires
 line-requires c = let a = c.args in
     let l = c.line_at-entry in
     let s = (goal.at.line-requires c).After-whole in (
-      c.new.ensures.0,
-      c.new.ensures.1,
+      c.clear.ensures.0,
+      c.clear.ensures.1,
       c.of.ensures.legible,
       record { is = refl; some = l.ensures.some },
       subst Fits (sym l.ensures.is) (line_fits (version_of a.q.now.version) a.q.now.change.verb (eqb (asked_of a.asked) 1) a.i (which s).line),
@@ -43,6 +43,6 @@ returns c = let a = c.args in
     let d = c.of in
     let s = (goal.at.returns c).After-whole in (
       written q _ l.result d.result q.change.verb (eqb (asked_of a.asked) 1) a.i (F.formulas Q (asked_of a.asked)) (which s) l.ensures d.ensures refl (c.line.ensures.0 Q d.ensures.under)
-          (subst (Spans c.vertices.result) (ranges_same q s.whole.ensures l.result.pairs) c.vertices.ensures),
+          (subst (Spans c.vertices-into.result) (ranges_same q s.whole.ensures l.result.pairs) c.vertices-into.ensures),
       c.line.ensures.1,
     )

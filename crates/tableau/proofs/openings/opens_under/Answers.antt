@@ -1,8 +1,6 @@
-use Rattle.std.proofs.Common.{sym}
+use Rattle.std.proofs.Common.{refl}
+use Rattle.goals.proofs.Stacks.{stack_none}
 use Rattle.tableau.proofs.openings.opens_under.Goals as goal
 
 pub open-requires : goal.open-requires
-open-requires c = let s = c.new-state.ensures in (c.requires.0, rw s.0 c.requires.1, s.1)
-
-pub returns : goal.returns
-returns c = let s = c.new-state.ensures in λ p tells. rw (sym s.0) (c.open.ensures p tells)
+open-requires c = (c.requires.0, c.requires.1, stack_none _ 0 refl)

@@ -17,7 +17,7 @@ there : (c : In-loop-i) → c.loop-i.i < length (formulas (question_of c.args.q.
 there c = omega (arith, c.loop-i-test.true, c.formula_count-i-end.ensures)
 
 pub formula_opens-requires : goal.formula_opens-requires
-formula_opens-requires c = fine_at (question_of c.args.q.now) (accepted_of c.args.q.now) (asked_of c.from-asked.result) c.loop-i.i (there (goal.at.formula_opens-requires c).In-loop-i) _ c.outline-f.ensures.0
+formula_opens-requires c = fine_at (question_of c.args.q.now) (accepted_of c.args.q.now) (asked_of c.from-asked.result) c.loop-i.i (there (goal.at.formula_opens-requires c).In-loop-i) _ c.outline.ensures.0
 
 pub returns-in-Some : goal.returns-in-Some
 returns-in-Some c = let q = question_of c.args.q.now in
@@ -27,7 +27,7 @@ returns-in-Some c = let q = question_of c.args.q.now in
     let i = c.loop-i.i in
     let h = there (goal.at.returns-in-Some c).In-loop-i in
     let r : Found = record { number = i; values = c.in-Some.values } in
-    let t = c.in-Some.ensures (formula_at (formulas q a) i) c.outline-f.ensures.0 (proper_at q ok a i h) in (
+    let t = c.in-Some.ensures (formula_at (formulas q a) i) c.outline.ensures.0 (proper_at q ok a i h) in (
       subst (λ f. Finds f (Some r)) (finding_alike q a c.args.asked e) (found_first q ok a i (c.loop-i.invariant ok) h r t refl),
       subst (λ Fs. TrueAt (formula_at Fs i) (held r.values)) (formulas_alike q a c.args.asked e) t,
     )
@@ -37,7 +37,7 @@ loop-i-preserved c = let q = question_of c.args.q.now in
     let a = asked_of c.from-asked.result in
     let i = c.loop-i.i in
     let h = there (goal.at.loop-i-preserved c).In-loop-i in
-    λ ok. passed_more q ok a i (c.loop-i.invariant ok) h (c.in_default.ensures (formula_at (formulas q a) i) c.outline-f.ensures.0 (proper_at q ok a i h))
+    λ ok. passed_more q ok a i (c.loop-i.invariant ok) h (c.in_default.ensures (formula_at (formulas q a) i) c.outline.ensures.0 (proper_at q ok a i h))
 
 pub returns : goal.returns
 returns c = let q = question_of c.args.q.now in
