@@ -78,7 +78,7 @@ pub fn tree(f: &Formula, part: &[u8], g: &Grid, stage: &Stage) -> Result<usize, 
     if part.len() <= at {
         return Err(Fault::SheetShort.at(at));
     }
-    // What a node's first byte says.
+    // Here a node's first byte, a number of the format, becomes a case.
     match part[at] {
         1 => false_leaf(f.program.instructions(), stage.truths.so_far(), at),
         2 => cycle(&f.vertices.ranges, g, stage.last, part, at),
