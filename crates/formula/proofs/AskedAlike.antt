@@ -1,7 +1,7 @@
 -- What is asked by a number is what its `Asked` asks: the formulas, and what is found of them.
-use Rattle.std.proofs.Common.{ℕ, ◌≡◌, List, cond, eqb, ap}
+use Rattle.std.proofs.Common.{ℕ, ◌≡◌, cond, eqb, ap}
 use Rattle.page_meaning.specs.Contents.{Question}
-use Rattle.page_formulas.specs.Formulas.{Formula, irrelevance, computability, formulas}
+use Rattle.page_formulas.specs.Formulas.{irrelevance, computability, formulas}
 use Rattle.page_sheets.specs.Sheet.{finding_under, finding_of}
 
 module _ (q : Question) (a n : ℕ) (same : eqb a 1 ≡ eqb n 1) where

@@ -28,13 +28,9 @@ module _ (q : Question) (whole : Whole q) (ok : Accepted (question_of q)) where
   able : Able q
   able =
       record {
-        whole = whole;
-        listed =
-            record {
-              few = few q.condition.count q.condition.tokens whole.held.few_tokens;
-              uses = there (λ P. Uses P (condition_of q.condition)) (subst (Uses (Exists (question_of q))) (condition_is q) (usable (question_of q) ok).uses);
-              few_comparisons = (subst ConditionOk (condition_is q) ok.condition).few_comparisons;
-            };
+        few = few q.condition.count q.condition.tokens whole.held.few_tokens;
+        uses = there (λ P. Uses P (condition_of q.condition)) (subst (Uses (Exists (question_of q))) (condition_is q) (usable (question_of q) ok).uses);
+        few_comparisons = (subst ConditionOk (condition_is q) ok.condition).few_comparisons;
       }
 
   chosen : ConditionOk (condition_of q.change.condition) → Uses (Exists (question_of q)) (condition_of q.change.condition) → Chooses q

@@ -10,7 +10,7 @@ use Rattle.question.specs.declared.types.Question.{Question}
 use Rattle.question.specs.declared.types.Column.{Column}
 use Rattle.page_formulas.specs.Compilation as C
 use Rattle.page_formulas.specs.Formulas.{bounded_new, bounded_all}
-use Rattle.sights.specs.Sights.{There, shown_from, modes_of}
+use Rattle.sights.specs.Sights.{There, Whole, shown_from, modes_of}
 use Rattle.sights.proofs.Shapes.{columns_length, first_is, changed_is, condition_is}
 use Rattle.pieces.specs.Pieces.{tokens_of, table_from, Compilable}
 use Rattle.pieces.proofs.Tests.{no_modes}
@@ -44,26 +44,26 @@ tests_take σ (suc n) (g ∷ gs) (m ∷ ms) h = ap (λ l. bounded_new m σ g ++ 
 
 -- ---- a question's context
 
-module _ (q : Question) (a : Able q) where
+module _ (q : Question) (w : Whole q) (a : Able q) where
   visible_are : (question_of q).visible ≡ shown_from 0 (map (λ c. c.visible) (take q.shape.total q.columns))
   unfolding question_of question_from
   visible_are = shown_visible (take q.shape.total q.columns) 0
 
   total_is : length (take q.shape.total q.columns) ≡ q.shape.total
-  total_is = length-take-le q.shape.total q.columns (omega (arith, a.whole.long, a.whole.held.shape.few_columns))
+  total_is = length-take-le q.shape.total q.columns (omega (arith, w.long, w.held.shape.few_columns))
 
   tests_same : (σ : C.Sight) (ms : List M.Mode) → length ms ≤ q.shape.width → bounded_all σ (table_from q.shape.first (take q.shape.total q.columns)) ms ≡ bounded_all σ (question_of q).changed ms
   tests_same σ ms h =
       ap (λ gs. bounded_all σ gs ms) (table_is q.shape.first (take q.shape.total q.columns))
       ∙ tests_take σ q.shape.width (drop q.shape.first (ranges_of q)) ms h
-      ∙ ap (λ gs. bounded_all σ gs ms) (sym (changed_is q a.whole))
+      ∙ ap (λ gs. bounded_all σ gs ms) (sym (changed_is q w))
 
   module _ (r : Context) (cs : r.sight.columns.now ≡ take q.shape.total q.columns) (first : r.sight.first ≡ q.shape.first) (listed : r.listed.now ≡ listed_tokens q) (few : length (modes_of r.sight) ≤ q.shape.width) where
     grounded : Under (question_of q) r
     grounded =
         record {
-          first = first_is q a.whole ∙ sym first;
-          total = columns_length q a.whole ∙ sym (ap length cs ∙ total_is);
+          first = first_is q w ∙ sym first;
+          total = columns_length q w ∙ sym (ap length cs ∙ total_is);
           visible = rw cs visible_are;
           listed = condition_is q ∙ ap tokens_of (sym listed);
           tests = λ σ. rw (cs, first) (tests_same σ (modes_of r.sight) few);
@@ -79,12 +79,12 @@ module _ (q : Question) (a : Able q) where
                 under = grounded;
                 usable =
                     record {
-                      inside = omega (arith, a.whole.held.shape.inside);
-                      few = omega (arith, a.whole.held.shape.few_columns);
+                      inside = omega (arith, w.held.shape.inside);
+                      few = omega (arith, w.held.shape.few_columns);
                       reads = rw moved (there (λ Q. Reads Q (modes_of r.sight)) reads);
                     };
                 moved = moved;
-                listed = rw listed (there (λ Q. Compilable Q (listed_tokens q)) a.listed);
+                listed = rw listed (there (λ Q. Compilable Q (listed_tokens q)) a);
                 chosen = there (λ Q. Compilable Q r.chosen.now) ready;
               };
           under = grounded;

@@ -13,7 +13,7 @@ use Rattle.question.specs.declared.types.Verb.{Verb}
 use Rattle.question.specs.declared.types.Verb.TheVariants.{Insert, Delete, Modify}
 use Rattle.page_formulas.specs.Compilation as S
 use Rattle.page_formulas.specs.Formulas.{bounded_all}
-use Rattle.sights.specs.Sights.{There, Has, Whole, Usable, modes_of, visible_of}
+use Rattle.sights.specs.Sights.{There, Has, Usable, modes_of, visible_of}
 use Rattle.pieces.specs.Pieces.{tokens_of, Compilable, table_from}
 use Rattle.sights.specs.declared.types.Sight.{Sight}
 use Rattle.formula_contexts.specs.declared.contexts.Context.{Context}
@@ -32,9 +32,8 @@ abbrev pub chosen_tokens : Question → List Token
 chosen_tokens q = take q.change.condition.count q.change.condition.tokens
 
 -- its list can be worked out
-pub record Able (q : Question) : Type 0 where
-  pub whole : Whole q
-  pub listed : Compilable (There q) (listed_tokens q)
+abbrev pub Able : Question → Type 0
+Able q = Compilable (There q) (listed_tokens q)
 
 -- and a delete's condition
 pub record Chooses (q : Question) : Type 0 where

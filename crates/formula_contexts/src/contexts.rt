@@ -6,6 +6,7 @@ ghost use Rattle.pieces.specs.Pieces.{tokens_of, Compilable};
 ghost use Rattle.formula_contexts.specs.Contexts.{Able, Buildable, condition_for, modes_for, view_of, Done};
 
 use question::types::{Question, Token, Verb};
+use sights::terms::whole;
 use sights::types::{Modes, Sight};
 
 // What claims are read under: the sight of a row after the change, the list's condition and the change's.
@@ -23,6 +24,7 @@ impl<'a> Context<'a> {
         requires { Able q.now × (length (modes_by modes) ≤ q.now.shape.width) × Compilable (There q.now) chosen.now × Reads (There q.now) (modes_by modes) }
         ensures { Done q.now (tokens_of chosen.now) (modes_by modes.entry) pairs result }
     {
+        whole(q);
         Context {
             sight: Sight {
                 columns: &q.columns[..q.shape.total],

@@ -1,12 +1,13 @@
-use Rattle.std.proofs.Common.{◌≤◌, ◌<◌, length, refl, sym, subst, ◌∙◌, arith}
+use Rattle.std.proofs.Common.{◌≤◌, ◌<◌, length, refl, sym, ap, subst, ◌∙◌, arith, Err}
 use borrow.Author.Tests.{lt-leb, le-leb}
 use Rattle.page_sheets.specs.Rows.{field_at, fields}
 use Rattle.page_sheets.specs.Sheet.{no_end}
+use Rattle.outcome.specs.Answers.{judged_of}
 use Rattle.checker_no.proofs.rows_end.Goals as goal
 
 pub returns-then-not-formula_met : goal.returns-then-not-formula_met
 unfolding no_end
-returns-then-not-formula_met c = λ F q is e. rw (c.at.ensures, sym (c.formula_met.ensures F q is e) ∙ c.if-not-formula_met.true) refl
+returns-then-not-formula_met c = λ F q is e. rw (sym (c.formula_met.ensures F q is e) ∙ c.if-not-formula_met.true) (ap (λ r. judged_of (Err r)) c.at.ensures)
 
 pub returns-then-field_at-sheet : goal.returns-then-field_at-sheet
 unfolding no_end
