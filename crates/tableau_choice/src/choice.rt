@@ -13,16 +13,10 @@ fn smallest(tree: &Tree, state: &State) -> usize
     requires { (0 < state.now.count) × InTree state.now }
     ensures { result < state.now.count }
 {
-    let mut at = state.count - 1;
-    let mut least = tree.nodes[state.goals[at].at as usize].size;
-    for k in (0..state.count - 1).rev() {
-        let size = tree.nodes[state.goals[k].at as usize].size;
-        if size < least {
-            least = size;
-            at = k;
-        }
-    }
-    at
+    (0..state.count)
+        .rev()
+        .min_by_key(|&k| tree.nodes[state.goals[k].at as usize].size)
+        .unwrap()
 }
 
 // It is taken out, and the last takes its place.
