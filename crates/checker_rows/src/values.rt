@@ -21,6 +21,7 @@ pub fn values(sheet: &[u8], count: usize) -> [i32; VERTICES]
     ensures { (v : ℕ) → get_or result v (pos 0) ≡ seen sheet.now count v }
 {
     let mut x = [0i32; VERTICES];
+    // by an index: the format numbers the fields, and each vertex follows from its field
     for j in 0..count {
         x[j + 1] = ints::read_i32(sheet, field_at(j));
     }
@@ -32,8 +33,8 @@ fn holds(place: Place, values: &[i32; VERTICES]) -> bool
     requires { (place.left < most_vertices) × (place.right < most_vertices) × Bounded least_weight place.most }
     ensures { result ≡ le_z (get_or values.now place.left (pos 0)) (get_or values.now place.right (pos 0) +ℤ place.most) }
 {
-    let left = values[place.left as usize] as i64;
-    let right = values[place.right as usize] as i64;
+    let left = i64::from(values[place.left as usize]);
+    let right = i64::from(values[place.right as usize]);
     left <= right + place.most
 }
 
@@ -43,6 +44,7 @@ fn decisions(places: &[Place], values: &[i32; VERTICES]) -> [bool; PLACES]
     ensures { Tested values.now places.now result }
 {
     let mut truths = [false; PLACES];
+    // the truths by an index: no contract says what is written where iterators are zipped
     for (i, place) in places.iter().enumerate() {
         truths[i] = holds(*place, values);
     }

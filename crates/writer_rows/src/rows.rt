@@ -21,6 +21,7 @@ use sights::terms::{vertex_at, whole};
 fn low_bits(z: i64) -> u64
     ensures { result ≡ of_z w32 z }
 {
+    // no cast loses a bit: what is cast isn't negative
     if z < 0 {
         let m = (-1 - z) as u64;
         return 4294967295u64.saturating_sub(m);
@@ -43,17 +44,19 @@ fn change_value(q: &Question, i: usize, c: usize, z: i64) -> i64
 {
     whole(q);
     match fixed_at(&q.shape, &q.change, i, c) {
-        Some(k) => k as i64,
+        Some(k) => i64::from(k),
         None => z,
     }
 }
 
-// Column c of a row of formula i, from the values at its vertices.
+// Column c of a row of formula i, from the values at its vertices. `Wide` stays a clause, here and below: it is said of a question and the
+// formula's number together.
 fn value_at(q: &Question, i: usize, second: bool, values: &[i64; VERTICES], c: usize) -> i64
     requires { Wide (question_of q.now) (question_of q.now).change i × (c < q.now.shape.total) }
     ensures { result ≡ look (row_for (question_of q.now) i second (look values.now)) c }
 {
     whole(q);
+    // there are 12 columns at most
     let v = vertex_at(q, second, c as u8) as usize;
     let z = values[v];
     if second {
@@ -75,6 +78,7 @@ fn put_row(
     ensures filled { filling sink.new result ≡ puts (begun sink.old) (bytes_of_row (row_for (question_of q.now) i second (look values.now))) }
 {
     whole(q);
+    // by an index: a column's vertex follows from its number
     for c in 0..q.shape.total {
         put_value(sink, value_at(q, i, second, values, c))?;
     }
