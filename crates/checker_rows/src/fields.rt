@@ -14,6 +14,7 @@ pub fn fields(q: &Question, i: usize, sheet: &[u8], count: usize) -> Result<(), 
     requires { (count ≤ q.now.shape.total + q.now.shape.total) × (8 ≤ length sheet.now) }
     ensures { FieldsRead (field_ok (question_of q.now) i sheet.now) sheet.now count result }
 {
+    // by an index: the format numbers the fields
     for j in 0..count {
         let place = field_at(j);
         if sheet.len() < place + 4 {

@@ -60,6 +60,7 @@ pub fn start(vertices: &Vertices) -> Grid
     ensures { Starts vertices.now.ranges result.rows }
 {
     let mut g = Grid::blank();
+    // by an index: a vertex is its number
     for v in 1..VERTICES {
         if let Some(r) = vertices.ranges[v] {
             confine(&mut g, v, r);

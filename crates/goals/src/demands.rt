@@ -29,7 +29,8 @@ fn fails(instruction: Instruction, want: bool) -> bool
     }
 }
 
-// Its places enter the facts; what needs a choice waits.
+// Its places enter the facts; what needs a choice waits. `Asks` stays a clause, here and in the tableau: it is said of a tree, a state and
+// an instruction together.
 pub fn demand(tree: &Tree, state: &mut State, i: usize, want: bool) -> Result<(), Contradiction>
     requires { Asks tree.now state.old i }
     ensures { Leaves tree.now state.old (goal i want ∷ waiting state.old) result state.new }
@@ -46,6 +47,7 @@ pub fn demand(tree: &Tree, state: &mut State, i: usize, want: bool) -> Result<()
         Instruction::Not => demand(tree, state, i - 1, !want),
         Instruction::And | Instruction::Or => {
             if splits(node.instruction, want) {
+                // i is below INSTRUCTIONS, which is below 2 ^ 16
                 state.push(Goal { at: i as u16, want });
                 return Ok(());
             }

@@ -8,7 +8,8 @@ use crate::types::Contradiction;
 use closure::relax_in;
 use grid::{Edge, Grid};
 
-// The least sum of a walk along an edge and back by the facts.
+// The least sum of a walk along an edge and back by the facts. `Enterable` stays a clause, here and below: it is said of a grid, a formula's
+// last vertex and an edge together.
 pub fn round(near: &Grid, last: usize, e: Edge) -> i64
     requires { Enterable last near.now.rows e }
     ensures { result ≡ weight near.now.rows e.to e.from +ℤ e.weight }

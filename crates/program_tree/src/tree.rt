@@ -39,6 +39,8 @@ impl Tree {
         ensures { Filled program.now self.new.nodes program.now.length × (self.new.count ≡ self.old.count) × (self.new.last ≡ self.old.last) }
     {
         let mut next = 0;
+        // by an index: an instruction's operands are nodes before its own
+        // by an index: an instruction's operands are nodes before its own
         for i in 0..program.length {
             let instruction = program.instructions[i];
             let size = self.size(instruction, i);

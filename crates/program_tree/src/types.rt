@@ -2,7 +2,8 @@
 use limits::INSTRUCTIONS;
 use program::types::{Instruction, Place};
 
-// An instruction, how many instructions there are in it and its operands, and which place it is where it is one.
+// An instruction, how many instructions there are in it and its operands, and which place it is where it is one: beside the instruction, as
+// in a program, since sizes, kinds and truths are read by the instruction alone.
 #[derive(Clone, Copy)]
 pub struct Node {
     pub instruction: Instruction,

@@ -39,7 +39,7 @@ pub struct Token {
     pub kind: Kind,
 }
 
-// The first `count` tokens are the condition.
+// The first `count` tokens are the condition: an array and a count, here and below, since nothing here takes memory from a heap.
 #[derive(Clone, Copy)]
 pub struct Condition {
     pub tokens: [Token; TOKENS],

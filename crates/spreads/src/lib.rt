@@ -30,6 +30,7 @@ fn highest(vertices: &Vertices) -> [i64; VERTICES]
     ensures { (v : ℕ) → v < vertices.now.count → get_or result v (pos 0) ≡ (span vertices.now.ranges v).hi }
 {
     let mut high = [0; VERTICES];
+    // by an index, here and below: a vertex is its number
     for v in 0..vertices.count {
         high[v] = span(vertices, v).hi;
     }

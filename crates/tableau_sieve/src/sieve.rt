@@ -26,7 +26,8 @@ fn stand(want: bool, first: Truth, second: Truth) -> Stand
     }
 }
 
-// One goal, to those that go on waiting or into the facts. Is there less to do than before?
+// One goal, to those that go on waiting or into the facts. Is there less to do than before? `Standing` stays a clause, here and below: it is
+// said of a tree and a state together.
 fn sift_one(
     tree: &Tree,
     seen: &[Truth; INSTRUCTIONS],
@@ -65,6 +66,7 @@ fn sift(tree: &Tree, seen: &[Truth; INSTRUCTIONS], state: &mut State) -> Result<
     let n = state.count;
     state.count = 0;
     let mut moved = false;
+    // by an index: what waits is said of an array's first goals, here of those below k
     for k in (0..n).rev() {
         if sift_one(tree, seen, state, goals[k])? {
             moved = true;

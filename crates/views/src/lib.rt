@@ -23,7 +23,8 @@ pub fn wanted(want: bool, a: Truth) -> Truth
     if want { a } else { a.not() }
 }
 
-// Of a place: implied if the facts have it, contradicted if it would close a negative cycle.
+// Of a place: implied if the facts have it, contradicted if it would close a negative cycle. `Tight` stays a clause, here and below: it is
+// said of the vertices up to the last, which a grid doesn't know.
 fn seen_place(near: &Grid, last: usize, place: Place) -> Truth
     requires { Placed last (place_of place) × Tight (suc last) near.now.rows }
     ensures { three_of result ≡ seen_place near.now.rows (place_of place) }
@@ -61,6 +62,7 @@ pub fn look(tree: &Tree, near: &Grid) -> [Truth; INSTRUCTIONS]
     ensures { Sees tree.now near.now.rows tree.now.count result }
 {
     let mut seen = [Truth::Open; INSTRUCTIONS];
+    // by an index: an instruction's operands are seen before it
     for i in 0..tree.count {
         seen[i] = view(tree, near, &seen, i);
     }

@@ -54,6 +54,7 @@ fn put_trees(sink: &mut Sink, q: &Question, asked: Asked) -> Result<(), Full>
     ensures filled { (ts : List Tree) → finding_of (question_of q.now) (asked_of asked) ≡ all_shut ts → filling sink.new result ≡ puts (begun sink.old) (bytes_all ts) }
 {
     let mut f = Formula::EMPTY;
+    // by an index: formulas are numbered, and stand in no list
     for i in 0..formula_count(q, asked) {
         put_tree(sink, &mut f, q, asked, i)?;
     }
@@ -79,5 +80,6 @@ pub fn put_no(sink: &mut Sink, q: &Question, asked: u8, number: usize) -> Result
     put_header(sink, asked, Verdict::No)?;
     let mut f = Formula::EMPTY;
     outline(&mut f, q, Asked::from(asked), number);
+    // a question has four formulas at most
     put_refutation(sink, q, number as u8, f.pairs, &first_leaf(&f))
 }

@@ -38,12 +38,14 @@ fn put_cycle(sink: &mut Sink, walk: &[u8]) -> Result<(), Full>
     ensures same_reference { sink.new.room.ghost_name ≡ sink.old.room.ghost_name }
     ensures filled { filling sink.new result ≡ puts (begun sink.old) (bytes_of (cycle walk.now)) }
 {
+    // a walk has 25 vertices at most
     sink.put_all(&[2, walk.len() as u8])?;
     sink.put_all(walk)
 }
 
 impl<'a> Ground<'a> {
-    // Node 2, by the search among the facts and one more. Put into `side`, its grid would stand in the frame of each level.
+    // Node 2, by the search among the facts and one more. Put into `side`, its grid would stand in the frame of each level. `Fact` stays a
+    // clause, here and below: an edge doesn't know the last vertex.
     #[inline(never)]
     fn put_search(&self, sink: &mut Sink, e: Edge) -> Result<(), Full>
         requires { Fact self.now.last e.from e.to e.weight }
