@@ -16,6 +16,7 @@ fn same(a: i32, b: i32) -> bool
     a == b
 }
 
+// Does column c take a value? That c is a column stays a clause, here and below: a number doesn't know the question.
 fn in_column(q: &Question, c: usize, z: i32) -> bool
     requires { c < q.now.shape.total }
     ensures { result ≡ in_column (question_of q.now) c z }

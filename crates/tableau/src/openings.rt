@@ -37,7 +37,8 @@ pub fn opens_under(tree: &Tree, near: &Grid) -> Option<[i64; VERTICES]>
     open(tree, &mut state)
 }
 
-// Of a compiled formula, under the facts of its ranges.
+// Of a compiled formula, under the facts of its ranges. `Fine` stays a clause, here, in the writer and in the checker: a formula is made in
+// a place that is lent, and isn't fine while it is made.
 pub fn formula_opens(f: &Formula) -> Option<[i64; VERTICES]>
     requires { Fine f.now }
     ensures { (F : written.Formula) → Compiled f.now F → Proper F → Opens result (TrueAt F) }

@@ -73,7 +73,7 @@ impl<'a> Ground<'a> {
     }
 
     // Half of a branch: what one more fact comes to. A leaf is told before anything is copied: a quarter of all nodes are false by the
-    // truths so far.
+    // truths so far. How many truths there are stays a clause, here and below: a node's truths and its ground are two values.
     #[cycle(branch_side)]
     fn side(&self, sink: &mut Sink, truths: &Truths, e: Edge) -> Result<(), Full>
         requires { (length truths.now ≤ length self.now.places.now) × Fact self.now.last e.from e.to e.weight }
