@@ -30,13 +30,13 @@ pub fn outline(into: &mut Formula, q: &Question, asked: Asked, i: usize)
 }
 
 // FORMAT 5.3: asked 2, an insert into the only table has none. Of a question it reads the tables and the change.
-pub fn insert_count(shape: &Shape, change: &Change, asked: Asked) -> usize
+pub fn insert_count(shape: &Shape, change: &Change, asked: u8) -> usize
     requires { ShapeHeld shape.now × (change.now.count ≤ most_rows) × (change.now.verb ≡ Verb.Insert) }
-    ensures { (v : Version) (cs : List Column) (d : Condition) → result ≡ length (formulas (question_with v shape.now cs d change.now) (asked_of asked)) }
+    ensures { (v : Version) (cs : List Column) (d : Condition) → result ≡ length (formulas (question_with v shape.now cs d change.now) asked) }
 {
     let rows = &change.rows[..change.count];
     let tables = &shape.widths[..shape.tables];
-    match asked {
+    match Asked::from(asked) {
         Asked::Irrelevant => rows.len(),
         Asked::Computable => {
             if tables.len() == 1 {
@@ -48,10 +48,10 @@ pub fn insert_count(shape: &Shape, change: &Change, asked: Asked) -> usize
 }
 
 // FORMAT 5.3: asked 1, version 2 has one more.
-pub fn modify_count(version: Version, asked: Asked) -> usize
-    ensures { (h : Shape) (cs : List Column) (d : Condition) (ch : Change) → ch.verb ≡ Verb.Modify → result ≡ length (formulas (question_with version h cs d ch) (asked_of asked)) }
+pub fn modify_count(version: Version, asked: u8) -> usize
+    ensures { (h : Shape) (cs : List Column) (d : Condition) (ch : Change) → ch.verb ≡ Verb.Modify → result ≡ length (formulas (question_with version h cs d ch) asked) }
 {
-    match (asked, version) {
+    match (Asked::from(asked), version) {
         (Asked::Irrelevant, Version::One) => 3,
         (Asked::Irrelevant, Version::Two) => 4,
         (Asked::Computable, _) => 4,
@@ -63,8 +63,8 @@ pub fn formula_count(q: &Question, asked: Asked) -> usize
     ensures { result ≡ length (formulas (question_of q.now) (asked_of asked)) }
 {
     match q.change.verb {
-        Verb::Insert => insert_count(&q.shape, &q.change, asked),
+        Verb::Insert => insert_count(&q.shape, &q.change, asked.number()),
         Verb::Delete => 1,
-        Verb::Modify => modify_count(q.version, asked),
+        Verb::Modify => modify_count(q.version, asked.number()),
     }
 }

@@ -1,1 +1,2 @@
+pub mod Layouts
 pub mod Places

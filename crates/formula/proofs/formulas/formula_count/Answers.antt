@@ -7,7 +7,7 @@ insert_count-requires c = let q = c.args.q.now in (q.shape_held, q.change_held.f
 
 pub returns-in-Insert : goal.returns-in-Insert
 unfolding question_of
-returns-in-Insert c = let q = c.args.q.now in c.insert_count.ensures q.version q.columns q.condition
+returns-in-Insert c = let q = c.args.q.now in rw (← c.number.ensures) (c.insert_count.ensures q.version q.columns q.condition)
 
 pub returns-in-Delete : goal.returns-in-Delete
 unfolding question_of
@@ -15,4 +15,4 @@ returns-in-Delete c = let q = c.args.q.now in delete_count q.version q.shape q.c
 
 pub returns-in-Modify : goal.returns-in-Modify
 unfolding question_of
-returns-in-Modify c = let q = c.args.q.now in c.modify_count.ensures q.shape q.columns q.condition q.change c.in-Modify.is
+returns-in-Modify c = let q = c.args.q.now in rw (← c.number-in-Modify.ensures) (c.modify_count.ensures q.shape q.columns q.condition q.change c.in-Modify.is)
