@@ -14,7 +14,7 @@ use refusal::{Fault, Refusal};
 // The one version of the format.
 const VERSION: u16 = 1;
 
-// Asked, and the verdict that says whether trees or rows follow.
+// Asked, and the verdict that says whether trees or rows follow. Any byte may be asked: the sheet's is compared with it.
 fn from_asked(q: &Question, asked: u8, sheet: &[u8]) -> Result<Verdict, Refusal>
     ensures { judged_of result ≡ from_asked (question_of q.now) asked sheet.now }
 {

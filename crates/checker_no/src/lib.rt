@@ -58,7 +58,7 @@ fn formula_rows(q: &Question, i: usize, f: &Formula, sheet: &[u8]) -> Result<Ver
     rows_end(f, sheet, count)
 }
 
-// The formula's number, then its rows.
+// The formula's number, then its rows. Any byte may be asked, as for a yes sheet.
 pub fn no_sheet(q: &Question, asked: u8, sheet: &[u8]) -> Result<Verdict, Refusal>
     ensures { judged_of result ≡ check_no (question_of q.now) (formulas (question_of q.now) asked) sheet.now }
 {

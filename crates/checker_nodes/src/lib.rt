@@ -38,6 +38,7 @@ fn named(ranges: &[Option<Range>], part: &[u8], first: usize, count: usize) -> R
     requires { first ≤ length part.now }
     ensures { Named ranges.now part.now first count result }
 {
+    // by an index: a refusal's place follows from it
     for i in 0..count {
         let place = first + i;
         if part.len() <= place {

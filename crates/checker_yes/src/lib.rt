@@ -15,7 +15,8 @@ use program::types::Formula;
 use question::types::{Asked, Question};
 use refusal::{Fault, Refusal};
 
-// The first tree stands after the header. The part of the sheet after a tree's end is lent to the next tree's check.
+// The first tree stands after the header. The part of the sheet after a tree's end is lent to the next tree's check. Any byte may be
+// asked, as by whoever compares it with the sheet's.
 pub fn yes_sheet(q: &Question, asked: u8, sheet: &[u8]) -> Result<Verdict, Refusal>
     requires { 7 ≤ length sheet.now }
     ensures { judged_of result ≡ check_yes most_vertices (formulas (question_of q.now) asked) sheet.now }

@@ -48,7 +48,7 @@ pub fn change_in(
     show(rt, label, 4, &question[..64 + change.len()])
 }
 
-// And in version 1.
+// And in version 1, of which most of them are: one function for both would have each name it.
 pub fn change(rt: &impl Print, label: &str, verb: Verb, bytes: &[u8]) -> io::Result<()> {
     change_in(rt, label, Version::One, verb, bytes)
 }

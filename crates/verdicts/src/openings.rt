@@ -16,6 +16,7 @@ pub struct Found {
     pub values: [i64; VERTICES],
 }
 
+// Any byte may be asked here, and so by all who call this: the pages have formulas for each.
 pub fn first_open(q: &Question, asked: u8) -> Option<Found>
     ensures { Finds (finding_of (question_of q.now) asked) result × Shown (question_of q.now) asked result }
 {

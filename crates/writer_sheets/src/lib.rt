@@ -23,7 +23,7 @@ use writer_leaves::first_leaf;
 use writer_rows::rows::put_refutation;
 use writer_trees::trees::plant_formula;
 
-// Mark, version, asked, verdict.
+// Mark, version, asked, verdict. Any byte may be asked, and it is the one that is written.
 fn put_header(sink: &mut Sink, asked: u8, verdict: Verdict) -> Result<(), Full>
     ensures same_reference { sink.new.room.ghost_name ≡ sink.old.room.ghost_name }
     ensures filled { filling sink.new result ≡ puts (begun sink.old) (header asked (verdict_of verdict)) }
