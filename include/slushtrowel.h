@@ -10,7 +10,7 @@
  * Build the library with `make lib` and link target/staticlib/libcapi.a (x86-64). It calls nothing
  * but memcpy, memmove and memset (no allocation, no input or output, no global state), so the
  * functions may be called from any thread at once. They need some stack, because sheets and formulas
- * are walked by recursion: allow 3 MB. The most that was measured is 2.4 MB, for the writing of a
+ * are walked by recursion: allow 2 MB. The most that was measured is 1.64 MB, for the writing of a
  * sheet as deep as one can be (its check takes 0.87 MB); what a verdict's deepest nesting would take
  * is an estimate, 1.4 MB (docs/notes/stack.md).
  *
