@@ -7,7 +7,7 @@ ghost use Rattle.refusal.specs.Outcomes.{IfValue};
 ghost use Rattle.fields.specs.Steps.{Steps};
 ghost use Rattle.changes.specs.Changes.{ranges_in};
 
-use crate::modes::KEPT;
+use crate::modes::{KEPT, modes};
 use crate::rows::NO_ROWS;
 use crate::table::Table;
 use fields::cursor::Cursor;
@@ -62,7 +62,7 @@ impl<'a> Table<'a> {
     {
         let names = self.names();
         let condition = condition(from, names.low, names.high)?;
-        let settings = self.modes(from)?;
+        let settings = modes(from, names, self.columns.len())?;
         Ok(Change {
             condition,
             settings,

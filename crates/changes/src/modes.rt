@@ -1,10 +1,10 @@
 // A modify's modes, one for each column of the changed table.
-ghost use Rattle.std.specs.Prelude.{◌+◌, [], length, map, take};
+ghost use Rattle.std.specs.Prelude.{◌≤◌, [], map, take};
+ghost use Rattle.page_meaning.specs.Limits.{most_columns};
 ghost use Rattle.page_questions.specs.Reader.{mode_at, no_column_at, many};
 ghost use Rattle.question.specs.Held.{mode_of, setting_of};
 ghost use Rattle.fields.specs.Steps.{Steps};
 
-use crate::table::Table;
 use fields::cursor::Cursor;
 use limits::COLUMNS;
 use question::types::{Mode, Setting};
@@ -44,15 +44,14 @@ fn mode(from: &mut Cursor, names: Names) -> Result<Mode, Refusal>
 // What becomes of a table that keeps every column.
 pub(crate) const KEPT: [Setting; COLUMNS] = [Setting { mode: Mode::Keep }; COLUMNS];
 
-impl<'a> Table<'a> {
-    // A mode for each column.
-    pub(crate) fn modes(&self, from: &mut Cursor) -> Result<[Setting; COLUMNS], Refusal>
-        ensures { Steps (λ ms. map setting_of (take (length self.now.columns.now) ms)) (λ s p. many (λ ms q. mode_at s self.now.first (self.now.first + length self.now.columns.now) q) (length self.now.columns.now) [] p) from.old result from.new }
-    {
-        let mut settings = KEPT;
-        for setting in settings[..self.columns.len()].iter_mut() {
-            setting.mode = mode(from, self.names())?;
-        }
-        Ok(settings)
+// A mode for each of n columns.
+pub fn modes(from: &mut Cursor, names: Names, n: usize) -> Result<[Setting; COLUMNS], Refusal>
+    requires { n ≤ most_columns }
+    ensures { Steps (λ ms. map setting_of (take n ms)) (λ s p. many (λ ms q. mode_at s names.low names.high q) n [] p) from.old result from.new }
+{
+    let mut settings = KEPT;
+    for setting in settings[..n].iter_mut() {
+        setting.mode = mode(from, names)?;
     }
+    Ok(settings)
 }

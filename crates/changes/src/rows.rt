@@ -28,7 +28,7 @@ impl<'a> Table<'a> {
     }
 
     // So many rows.
-    pub(crate) fn rows(&self, from: &mut Cursor, count: usize) -> Result<[Row; ROWS], Refusal>
+    pub fn rows(&self, from: &mut Cursor, count: usize) -> Result<[Row; ROWS], Refusal>
         requires { count ≤ most_rows }
         ensures { Steps (λ rs. map (row_of (length self.now.columns.now)) (take count rs)) (λ s p. many (λ rs q. row_at s (ranges_in self.now.columns.now) q) count [] p) from.old result from.new }
     {

@@ -7,7 +7,7 @@ use tokens::token::Names;
 
 // Its columns, and the number of the first.
 #[derive(Clone, Copy)]
-pub(crate) struct Table<'a> {
+pub struct Table<'a> {
     pub columns: &'a [Column],
     pub first: usize,
     pub ghost few_columns: { first + length columns.now ≤ most_columns },

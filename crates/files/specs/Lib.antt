@@ -1,1 +1,2 @@
+pub mod Ends
 pub mod Words

@@ -3,6 +3,7 @@
 #![tactic(auto)]
 
 ghost use Rattle.std.specs.Prelude.{◌≡◌, ◌≤◌, length, IfOk};
+ghost use Rattle.files.specs.Ends.{Ends};
 ghost use Rattle.files.specs.Words.{AsksFor};
 
 use question::types::Asked;
@@ -227,7 +228,9 @@ pub fn write_sheet(
 }
 
 // What a program's end says: nothing more where a line has told what went wrong.
-pub fn end(done: Result<(), Failure>) -> io::Result<()> {
+pub fn end(done: Result<(), Failure>) -> io::Result<()>
+    ensures { Ends done result }
+{
     match done {
         Ok(()) | Err(Failure::Told) | Err(Failure::Longer) => Ok(()),
         Err(Failure::Output(error)) => Err(error),

@@ -82,14 +82,14 @@ impl Names {
 
 // What the tokens so far come to: how many comparisons there were, and how many truths stand.
 #[derive(Clone, Copy)]
-pub(crate) struct SoFar {
+pub struct SoFar {
     pub compared: usize,
     pub height: usize,
 }
 
 impl SoFar {
     // With one token more.
-    pub(crate) fn with(self, kind: Kind) -> SoFar
+    pub fn with(self, kind: Kind) -> SoFar
         requires compared_fits { self.compared + 1 < 2 ^ 64 }
         requires height_fits { self.height + 1 < 2 ^ 64 }
         ensures compared { result.compared ≡ counted self.compared (kind_of kind) }
@@ -120,7 +120,7 @@ impl SoFar {
 }
 
 // A token. Its first byte says which kind it is; nothing else does.
-pub(crate) fn token(from: &mut Cursor, names: Names, so_far: SoFar) -> Result<Kind, Refusal>
+pub fn token(from: &mut Cursor, names: Names, so_far: SoFar) -> Result<Kind, Refusal>
     ensures { Steps kind_of (λ s p. token_with s names.low names.high so_far.compared so_far.height p) from.old result from.new }
 {
     let place = from.at;

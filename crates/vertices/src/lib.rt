@@ -27,7 +27,7 @@ fn entry(second: bool, c: &Column) -> Option<Range>
 }
 
 // The next vertices, one for each column.
-fn row(into: &mut Vertices, columns: &[Column], second: bool)
+pub fn row(into: &mut Vertices, columns: &[Column], second: bool)
     requires { Widen into.old (length columns.now) }
     ensures { Widens into.old into.new (length columns.now) (row_ranges second columns.now) }
 {
