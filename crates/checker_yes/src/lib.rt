@@ -24,6 +24,7 @@ pub fn yes_sheet(q: &Question, asked: u8, sheet: &[u8]) -> Result<Verdict, Refus
     let asked = Asked::from(asked);
     let mut f = Formula::EMPTY;
     let mut at: usize = 7;
+    // by an index: formulas are numbered, and stand in no list
     for i in 0..formula_count(q, asked) {
         outline(&mut f, q, asked, i);
         match formula_tree(&f, &sheet[at..]) {

@@ -29,7 +29,8 @@ pub fn outline(into: &mut Formula, q: &Question, asked: Asked, i: usize)
     line(&mut into.program, &Context::of(q, i, pairs), &entry);
 }
 
-// FORMAT 5.3: asked 2, an insert into the only table has none. Of a question it reads the tables and the change.
+// FORMAT 5.3: asked 2, an insert into the only table has none. Of a question it reads the tables and the change. Any byte may be asked, here
+// and below: the pages have formulas for each.
 pub fn insert_count(shape: &Shape, change: &Change, asked: u8) -> usize
     requires { ShapeHeld shape.now × (change.now.count ≤ most_rows) × (change.now.verb ≡ Verb.Insert) }
     ensures { (v : Version) (cs : List Column) (d : Condition) → result ≡ length (formulas (question_with v shape.now cs d change.now) asked) }

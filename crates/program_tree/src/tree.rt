@@ -40,7 +40,6 @@ impl Tree {
     {
         let mut next = 0;
         // by an index: an instruction's operands are nodes before its own
-        // by an index: an instruction's operands are nodes before its own
         for i in 0..program.length {
             let instruction = program.instructions[i];
             let size = self.size(instruction, i);

@@ -22,6 +22,7 @@ pub fn first_open(q: &Question, asked: u8) -> Option<Found>
 {
     let asked = Asked::from(asked);
     let mut f = Formula::EMPTY;
+    // by an index: formulas are numbered, and stand in no list
     for i in 0..formula_count(q, asked) {
         outline(&mut f, q, asked, i);
         if let Some(values) = formula_opens(&f) {
