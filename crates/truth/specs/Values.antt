@@ -13,6 +13,11 @@ three_of Passes = passes
 abbrev pub decided_of : List Bool → ℕ → Three
 decided_of truths n = next (drop n truths)
 
+-- what a kind from 4 on pushes
+abbrev pub constant_of : ℕ → Three
+constant_of (suc (suc (suc (suc zero)))) = passes
+constant_of k = fails
+
 -- those in cells h, .., 1
 abbrev pub below : List Truth → ℕ → List Three
 below cells zero = []

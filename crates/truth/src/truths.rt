@@ -5,7 +5,7 @@ ghost use Rattle.page_formulas.specs.Kinds.{known_kinds};
 ghost use Rattle.page_formulas.specs.Knowledge.{and3, or3, not3};
 ghost use Rattle.program.specs.Meanings.{number_of};
 ghost use Rattle.truth.specs.Bytes.{bit};
-ghost use Rattle.truth.specs.Values.{three_of, decided_of};
+ghost use Rattle.truth.specs.Values.{three_of, decided_of, constant_of};
 
 use crate::stack::Stack;
 use crate::steps::{Decision, Step};
@@ -54,7 +54,19 @@ fn decided<T: Decision>(truths: &[T], place: usize) -> Truth
     }
 }
 
-// Of what stands for instructions, under what stands for the truths of the first places.
+// What a number from 4 on pushes: 4 true, the rest false.
+fn constant(kind: u8) -> Truth
+    ensures { three_of result ≡ constant_of kind }
+{
+    if kind == 4 {
+        Truth::Passes
+    } else {
+        Truth::Fails
+    }
+}
+
+// Of what stands for instructions, under what stands for the truths of the first places. Their numbers are compared, since a match on six
+// instructions becomes a jump through a table, which the processor guesses wrongly more often.
 fn run<I: Step, T: Decision>(instructions: &[I], truths: &[T]) -> Truth
     requires { length instructions.now ≤ most_instructions }
     ensures { three_of result ≡ known_kinds (map I.number instructions.now) (map T.passes truths.now) }
@@ -62,16 +74,18 @@ fn run<I: Step, T: Decision>(instructions: &[I], truths: &[T]) -> Truth
     let mut stack = Stack::new();
     let mut place: usize = 0;
     for i in instructions {
-        match i.instruction() {
-            Instruction::Place => {
-                stack.push(decided(truths, place));
-                place += 1;
-            }
-            Instruction::And => stack.and(),
-            Instruction::Or => stack.or(),
-            Instruction::Not => stack.not(),
-            Instruction::True => stack.push(Truth::Passes),
-            Instruction::False => stack.push(Truth::Fails),
+        let kind = i.kind();
+        if kind == 0 {
+            stack.push(decided(truths, place));
+            place += 1;
+        } else if 4 <= kind {
+            stack.push(constant(kind));
+        } else if kind == 3 {
+            stack.not();
+        } else if kind == 1 {
+            stack.and();
+        } else {
+            stack.or();
         }
     }
     stack.top()
