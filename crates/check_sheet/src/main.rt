@@ -23,15 +23,24 @@ fn shown(rt: &impl Print, start: Started, sheet: &[u8]) -> io::Result<()> {
     }
 }
 
-fn work(rt: &(impl Files + Env + Print), told: &impl Print) -> Result<(), Failure> {
-    let mut bytes = [0u8; 4096];
-    let start = files::start(rt, told, &mut bytes)?;
+// The room is the first local of its function: else its megabyte is cleared twice, once where the function begins.
+fn check(
+    rt: &(impl Files + Env + Print),
+    told: &impl Print,
+    start: Started,
+) -> Result<(), Failure> {
     let mut room = files::room();
     match files::read_sheet(rt, told, &mut room) {
         Err(Failure::Longer) => told.println("the sheet is longer than 1048576 bytes")?,
         taken => shown(rt, start, taken?)?,
     }
     Ok(())
+}
+
+fn work(rt: &(impl Files + Env + Print), told: &impl Print) -> Result<(), Failure> {
+    let mut bytes = [0u8; 4096];
+    let start = files::start(rt, told, &mut bytes)?;
+    check(rt, told, start)
 }
 
 fn main(rt: HostRuntime) -> io::Result<()> {
