@@ -1,3 +1,4 @@
 pub mod Columns
+pub mod Numbers
 pub mod Rows
 pub mod Trees

@@ -19,3 +19,22 @@ pub struct Tree {
     pub count: usize,
     pub last: usize,
 }
+
+// A node with numbers in the place of the declared words: any u16 for the instruction, of which 0 to 5 are its numbers and a greater one
+// does what 5 does; and a place's two vertices.
+#[derive(Clone, Copy)]
+pub struct Row {
+    pub kind: u16,
+    pub size: u16,
+    pub left: u16,
+    pub right: u16,
+    pub most: i64,
+}
+
+// The same tree of such nodes.
+#[derive(Clone, Copy)]
+pub struct Rows {
+    pub rows: [Row; INSTRUCTIONS],
+    pub count: usize,
+    pub last: usize,
+}
