@@ -109,7 +109,7 @@ module _ (last : ℕ) (F : Formula) where
           abbrev beyond : Growth
           beyond = fast last F todo (ds ++ d ∷ []) (decide at.facts p d) (after (weight near) (taken p d))
 
-          same_beyond : SameBelow last F (after (weight near) (taken p d)) (weight closer)
+          pub same_beyond : SameBelow last F (after (weight near) (taken p d)) (weight closer)
           same_beyond = closer_same last F near few table (fact_of p d)
 
           onward : pos 0 ≤ℤ (weight near (taken p d).left (taken p d).right +ℤ (taken p d).most) → Same (UpTo last) (open_at x) beyond → Leading x (ds ++ d ∷ []) closer
