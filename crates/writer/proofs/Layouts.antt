@@ -6,9 +6,11 @@ use native.Mathlib.Omega.{arith}
 use native.Mathlib.Decide.{dec_le}
 use lib.ListN.{length}
 use Rattle.page_meaning.specs.Contents.{Question}
-use Rattle.page_sheets.specs.Sheet.{verdict_for, finding_of, sheet_under, sheet_of}
+use Rattle.page_sheets.specs.Sheet as page
+use Rattle.page_sheets.specs.Sheet.{say_yes, say_no, verdict_for, finding_of, sheet_under, sheet_of}
 use Rattle.outcome.specs.Answers.{verdict_of}
 use Rattle.outcome.specs.declared.Verdict.{Verdict}
+use Rattle.outcome.specs.declared.Verdict.TheVariants.{Yes, No}
 use Rattle.room.specs.Room.{Filling, started, puts}
 use Rattle.room.proofs.PutBytes.{Stand, puts_length, puts_fit, puts_past}
 use Rattle.writer.specs.Layouts.{StandsIf, Lays}
@@ -31,3 +33,12 @@ module _ (old sheet : List ℕ) (end : Filling) (e : end ≡ puts (started old) 
 pub lays : (q : Question) (a : ℕ) (v : Verdict) → verdict_of v ≡ verdict_for (finding_of q a) → (old : List ℕ) (end : Filling) → end ≡ puts (started old) (sheet_of q a) → Lays old q a (finding_of q a) v end
 unfolding sheet_under
 lays q a v says old end e = record { says = says; long = laid_length old _ end e; stands = laid_stands old _ end e }
+
+-- the verdict of what is found, where a byte found no room and none came back
+abbrev pub told : page.Verdict → Verdict
+told say_yes = Yes
+told say_no = No
+
+pub told_is : (v : page.Verdict) → verdict_of (told v) ≡ v
+told_is say_yes = refl
+told_is say_no = refl

@@ -1,6 +1,6 @@
 -- The room's rest cleared: what stands there is what the answer says.
-use Prim.Native.Nat.{ℕ, ◌-◌, ◌≤◌}
-use mathlib.Core.Path.{◌≡◌, ap, ap₂, ◌∙◌}
+use Prim.Native.Nat.{ℕ, ◌-◌, ◌≤◌, ◌<◌}
+use mathlib.Core.Path.{◌≡◌, ap, ap₂, ◌∙◌, subst}
 use mathlib.Core.Bool.{true, false}
 use mathlib.Core.List.{List, ◌++◌}
 use native.Mathlib.Omega.{arith}
@@ -14,10 +14,9 @@ use Rattle.page_sheets.specs.Answers.{placed}
 use Rattle.page_sheets.specs.Sheet as page
 use Rattle.page_sheets.specs.Sheet.{verdict_for, finding_of, sheet_under, sheet_of}
 use Rattle.page_sheets.proofs.Fit.{to_true, to_false}
-use Rattle.room.specs.Room.{begun, stopped, started, puts}
+use Rattle.room.specs.Room.{Filling, begun}
 use Rattle.room.specs.declared.Sink.{Sink}
 use Rattle.writer.specs.Layouts.{StandsIf, Lays}
-use Rattle.writer.proofs.Layouts.{laid_length, laid_stands}
 
 -- ---- a sheet that fits, and the room's bytes then
 module _ (q : Question) (a : ℕ) (old : List ℕ) (v : Verdict) (s : Sink) (h : Lays old q a (finding_of q a) v (begun s)) (mid : List ℕ) (there : mid ≡ s.room.now) where
@@ -41,11 +40,16 @@ module _ (q : Question) (a : ℕ) (old : List ℕ) (v : Verdict) (s : Sink) (h :
       rw (t, h.says, m, rest)
 
 -- ---- one that is longer than the room: zeros
-pub placed_none : (old sheet : List ℕ) (v : page.Verdict) (mid new : List ℕ) → new ≡ take 0 mid ++ replicate (length mid - 0) 0 → (s : Sink) → mid ≡ s.room.now → stopped s ≡ puts (started old) sheet → record { answer = refused 21 0; room = new } ≡ placed v sheet old
-placed_none old sheet v mid new c s there e =
-    let long : length mid ≡ length old = ap length there ∙ laid_length old sheet (stopped s) e in
-    let short : StandsIf true sheet s.room.now s.at = laid_stands old sheet (stopped s) e in
-    let t = to_false (leb (length sheet) (length old)) (λ b. omega (arith, leb→le (length sheet) (length old) b, short, ap length there, long)) in
+pub placed_none : (old sheet : List ℕ) (v : page.Verdict) (mid new : List ℕ) → length mid ≡ length old → length mid < length sheet → new ≡ take 0 mid ++ replicate (length mid - 0) 0 → record { answer = refused 21 0; room = new } ≡ placed v sheet old
+placed_none old sheet v mid new long short c =
+    let t = to_false (leb (length sheet) (length old)) (λ b. omega (arith, leb→le (length sheet) (length old) b, short, long)) in
     let all : length mid - 0 ≡ length old = omega (arith, long) in
     let rest : new ≡ replicate (length old) 0 = c ∙ ap (λ n. take 0 mid ++ replicate {A = ℕ} n 0) all in
     rw (t, rest)
+
+-- the same, where a sheet was laid and a byte of it found no room
+pub placed_past : (q : Question) (a : ℕ) (old : List ℕ) (v : Verdict) (end : Filling) → Lays old q a (finding_of q a) v end → end.over ≡ true → (mid : List ℕ) → mid ≡ end.bytes → (new : List ℕ) → new ≡ take 0 mid ++ replicate (length mid - 0) 0 → record { answer = refused 21 0; room = new } ≡ placed (verdict_for (finding_of q a)) (sheet_of q a) old
+unfolding sheet_under
+placed_past q a old v end h past mid there new c =
+    let short : StandsIf true (sheet_of q a) end.bytes end.at = subst (λ o. StandsIf o (sheet_of q a) end.bytes end.at) past h.stands in
+    placed_none old (sheet_of q a) (verdict_for (finding_of q a)) mid new (ap length there ∙ h.long) (omega (arith, short, ap length there)) c
