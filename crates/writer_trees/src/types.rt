@@ -26,14 +26,18 @@ pub struct Ground<'a> {
 }
 
 impl<'a> Ground<'a> {
+    ghost use Rattle.std.specs.Prelude.{map};
     ghost use Rattle.page_formulas.specs.Formulas.{Formula};
+    ghost use Rattle.page_formulas.specs.Kinds.{known_kinds};
     ghost use Rattle.page_formulas.specs.Knowledge.{known};
     ghost use Rattle.program.specs.Lent.{Lent};
+    ghost use Rattle.program.specs.Meanings.{number_of};
     ghost use Rattle.truth.specs.Values.{three_of};
 
     // What is known of the formula under the truths so far.
     pub fn known(&self, truths: &Truths) -> Truth
-        ensures { (F : Formula) → Lent F.program self.now.instructions.now self.now.places.now → three_of result ≡ known F.program truths.now }
+        ensures numbers { three_of result ≡ known_kinds (map number_of self.now.instructions.now) truths.now }
+        ensures lent { (F : Formula) → Lent F.program self.now.instructions.now self.now.places.now → three_of result ≡ known F.program truths.now }
     {
         known(self.instructions, truths.so_far())
     }

@@ -73,26 +73,26 @@ pub side-returns-then-contradicts-clause-grows : goal.side-returns-then-contradi
 side-returns-then-contradicts-clause-grows t c = λ F lent.
     let a = c.args in
     let x = a.self.now in
-    grows_cut _ _ _ (side_cut F x lent a.truths.now a.e (sym c.contradicts.ensures ∙ c.if-contradicts.true)) _ _ (rw (← c.known-k.ensures F lent) c.cut.ensures.filled)
+    grows_cut _ _ _ (side_cut F x lent a.truths.now a.e (sym c.contradicts.ensures ∙ c.if-contradicts.true)) _ _ (rw (← c.known-k.ensures.lent F lent) c.cut.ensures.filled)
 
 pub side-returns-then-count-self-clause-grows : goal.side-returns-then-count-self-clause-grows
 side-returns-then-count-self-clause-grows t c = λ F lent.
     let a = c.args in
     let x = a.self.now in
-    grows_open _ _ (side_end F x lent a.truths.now a.e (sym c.contradicts.ensures ∙ c.if-contradicts.false) (sym (c.known-k.ensures F lent) ∙ ap three_of c.in-Open.is) (omega (arith, c.if-count-self.true, c.count.ensures))) _ _
+    grows_open _ _ (side_end F x lent a.truths.now a.e (sym c.contradicts.ensures ∙ c.if-contradicts.false) (sym (c.known-k.ensures.lent F lent) ∙ ap three_of c.in-Open.is) (omega (arith, c.if-count-self.true, c.count.ensures))) _ _
 
 pub side-returns-in-Fails-clause-grows : goal.side-returns-in-Fails-clause-grows
 side-returns-in-Fails-clause-grows t c = λ F lent.
     let a = c.args in
-    grows_leaf _ (side_false F a.self.now lent a.truths.now a.e (sym (c.known-k.ensures F lent) ∙ ap three_of c.in-Fails.is)) _ _ c.put.ensures.filled
+    grows_leaf _ (side_false F a.self.now lent a.truths.now a.e (sym (c.known-k.ensures.lent F lent) ∙ ap three_of c.in-Fails.is)) _ _ c.put.ensures.filled
 
 pub side-returns-in-Passes-clause-grows : goal.side-returns-in-Passes-clause-grows
 side-returns-in-Passes-clause-grows t c = λ F lent.
     let a = c.args in
-    grows_open _ _ (side_true F a.self.now lent a.truths.now a.e (sym c.contradicts.ensures ∙ c.if-contradicts.false) (sym (c.known-k.ensures F lent) ∙ ap three_of c.in-Passes.is)) _ _
+    grows_open _ _ (side_true F a.self.now lent a.truths.now a.e (sym c.contradicts.ensures ∙ c.if-contradicts.false) (sym (c.known-k.ensures.lent F lent) ∙ ap three_of c.in-Passes.is)) _ _
 
 pub side-returns-else-count-self-clause-grows : goal.side-returns-else-count-self-clause-grows
-side-returns-else-count-self-clause-grows t c = λ F lent. c.deeper.ensures.grows F lent (sym (c.known-k.ensures F lent) ∙ ap three_of c.in-Open.is)
+side-returns-else-count-self-clause-grows t c = λ F lent. c.deeper.ensures.grows F lent (sym (c.known-k.ensures.lent F lent) ∙ ap three_of c.in-Open.is)
 
 -- ---- the branch below
 

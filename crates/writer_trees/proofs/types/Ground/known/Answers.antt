@@ -1,21 +1,29 @@
 use borrow.Author.Rules.{rules}
+use Prim.Native.Nat.{ℕ}
 use mathlib.Core.Path.{◌≡◌, ap, ◌∙◌}
 use mathlib.Core.Bool.{Bool}
 use mathlib.Core.List.{List, map}
-use Rattle.page_formulas.specs.Formulas.{Formula}
+use native.Mathlib.Omega.{arith}
+use lib.ListN.{length, take}
+use lib.Seq.{take_all}
 use Rattle.page_formulas.specs.Kinds.{known_kinds}
-use Rattle.page_formulas.specs.Knowledge.{Three, known}
-use Rattle.program.specs.Lent.{Lent}
+use Rattle.page_formulas.specs.Knowledge.{Three}
 use Rattle.program.specs.Meanings.{number_of}
 use Rattle.program.specs.declared.types.Instruction.{Instruction}
-use Rattle.program.specs.declared.types.Place.{Place}
 use Rattle.writer_trees.proofs.NodeHalves.{known_lent}
 use Rattle.writer_trees.proofs.types.Ground.known.Goals as goal
 
-by_truths : (F : Formula) (ks : List Instruction) (ps : List Place) → Lent F.program ks ps → (ds es : List Bool) (k : Three) → k ≡ known_kinds (map number_of ks) es → es ≡ ds → k ≡ known F.program ds
-by_truths F ks ps lent ds es k h e = h ∙ ap (known_kinds (map number_of ks)) e ∙ known_lent F ks ps lent ds
+-- as many as were decided are all
+whole : (ds es : List Bool) (n : ℕ) → es ≡ ds → n ≡ length ds → take n es ≡ ds
+whole ds es n e m = rw e (take_all n ds (omega (arith, m)))
 
--- The truths that the code hands on aren't named, so that others are refused for what they are.
-pub returns : goal.returns
-returns c = λ F lent. let x = c.args.self.now in
-    by_truths F x.instructions.now x.places.now lent c.args.truths.now _ _ c.known.ensures (search rules)
+-- The truths that the code hands on aren't named, so that others are refused for what they are; a part of them that is the whole isn't.
+by_truths : (ks : List Instruction) (ds es : List Bool) (k : Three) → k ≡ known_kinds (map number_of ks) es → es ≡ ds → k ≡ known_kinds (map number_of ks) ds
+by_truths ks ds es k h e = h ∙ ap (known_kinds (map number_of ks)) e
+
+pub returns-clause-numbers : goal.returns-clause-numbers
+returns-clause-numbers c = by_truths c.args.self.now.instructions.now c.args.truths.now _ _ c.known.ensures (search (rules, whole))
+
+pub returns-clause-lent : goal.returns-clause-lent
+returns-clause-lent c = λ F lent. let x = c.args.self.now in
+    returns-clause-numbers c ∙ known_lent F x.instructions.now x.places.now lent c.args.truths.now
