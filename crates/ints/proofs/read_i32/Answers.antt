@@ -8,4 +8,4 @@ use Rattle.ints.proofs.read_i32.Goals as goal
 
 pub returns : goal.returns
 unfolding int32 le32
-returns c = to_z-of_z {w = w32} (record { sfits = c.from_le_bytes.type_inv }) ∙ c.from_le_bytes.ensures ∙ ap (to_z w32) (omega arith)
+returns c = to_z-of_z {w = w32} (record { sfits = c.from_bits.type_inv }) ∙ c.from_bits.ensures ∙ ap (to_z w32) (c.from_le_bytes.ensures ∙ omega arith)

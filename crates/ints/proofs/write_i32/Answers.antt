@@ -19,4 +19,4 @@ unfolding put32 bytes4
 returns c = let s = c.args.s.now in
     let p = c.args.p in
     put_four s c.copy_from_slice.new.self p
-    ∙ ap (λ b. take p s ++ b ++ drop (p + 4) s) (c.copy_from_slice.ensures.after ∙ c.to_le_bytes.ensures ∙ ap (λ z. bytes4 (of_z w32 z)) (to_z-of_z c.ranges.z))
+    ∙ ap (λ b. take p s ++ b ++ drop (p + 4) s) (c.copy_from_slice.ensures.after ∙ c.to_le_bytes.ensures ∙ ap bytes4 (c.to_bits.ensures ∙ ap (of_z w32) (to_z-of_z c.ranges.z)))
