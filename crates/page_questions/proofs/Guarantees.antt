@@ -158,7 +158,7 @@ module _ (l : Limits) where
             (λ cs p b g. holds_so {A = At Column} (λ a. RangeOk a.value.range) (λ a. Every (λ c. RangeOk c.range) (cs ++ (a.value ∷ [])))
             (λ a r. every_snoc (λ c. RangeOk c.range) cs a.value g r) (column_at s p) (column_holds s p)) (total ws) [] p (omega arith) tt
 
-  from_tables_lem : (s : List ℕ) (p : ℕ) → Holds (AcceptedUnder l) (from_tables l s p)
+  pub from_tables_lem : (s : List ℕ) (p : ℕ) → Holds (AcceptedUnder l) (from_tables l s p)
   unfolding from_tables from_kind from_changed from_widths
   from_tables_lem s p =
       then_holds (Between 1 (up_to l.tables)) (AcceptedUnder l) (byte s 4 1 (up_to l.tables) p) _ (byte_holds s 4 1 (up_to l.tables) p) λ tables p few.

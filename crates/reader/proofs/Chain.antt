@@ -2,7 +2,7 @@
 use Rattle.std.specs.Prelude.{ℕ, zero, suc, ◌+◌, ◌-◌, ◌≤◌, ◌<◌, ◌≡◌, Bool, true, false, cond, leb, length, List, [], ◌∷◌, map, take, drop, get_or, Result, Ok, Err}
 use Rattle.std.specs.Result.{IsErrAnd}
 use Rattle.std.proofs.lemmas.Result.{err_from_is_err_and}
-use mathlib.Core.Path.{refl, sym, ap, ◌∙◌}
+use mathlib.Core.Path.{refl, sym, ap, subst, ◌∙◌}
 use native.Mathlib.Omega.{arith}
 use lib.Seq.{take-take, length-take-le}
 use lib.ListN.{length-drop}
@@ -11,11 +11,14 @@ use Rattle.page_numbers.specs.Outcome.{Outcome, good, refused}
 use borrow.Author.Tests.{lt-ltb, le-ltb}
 use Rattle.page_meaning.specs.Contents as M
 use Rattle.page_meaning.specs.Contents.{Version}
+use Rattle.page_questions.specs.Guarantees.{Accepted}
 use Rattle.page_questions.proofs.Steps.{not_both}
+use Rattle.page_questions.proofs.Invariants.{Holds}
+use Rattle.page_questions.proofs.Guarantees.{from_tables_lem}
 use Rattle.page_meaning.specs.Limits.{limits, most_tables, most_columns}
 use Rattle.page_questions.specs.Layout as L
 use Rattle.page_questions.specs.Reader as Reader
-use Rattle.page_questions.specs.Reader.{Read, up_to, byte, many, width_at, column_at, condition_at, change_at, ending, from_change, from_condition, from_visible, from_columns, from_widths, from_changed, from_kind, from_tables, from_version, read_under, read_of, marked, versioned, version_in}
+use Rattle.page_questions.specs.Reader.{Read, up_to, byte, many, width_at, column_at, condition_at, change_at, ending, from_change, from_condition, from_visible, from_columns, from_widths, from_changed, from_kind, from_tables, from_version, versioned, version_in}
 use Rattle.refusal.specs.Outcomes.{outcome_of}
 use Rattle.refusal.specs.declared.Refusal.{Refusal}
 use Rattle.question.specs.Held.{Reads, ShapeHeld, meant, version_of, question_with, verb_number, widths_of, column_of, condition_of, change_of}
@@ -32,7 +35,7 @@ use Rattle.fields.specs.declared.cursor.Cursor.{Cursor}
 use Rattle.fields.proofs.Chain.{Ends, ends_after}
 use Rattle.changes.specs.Changes.{ranges_in}
 use Rattle.tables.specs.Shapes.{some}
-use Rattle.reader.specs.Head.{head}
+use Rattle.reader.specs.Head.{version_at}
 
 -- what was refused
 pub reads_refused : {r : Result Question Refusal} (e : Refusal) {o : Read} → IsErrAnd r (λ d. d ≡ e) → meant (Err e) ≡ o → Reads r o
@@ -75,7 +78,7 @@ module _ (h : Shape) (held : ShapeHeld h) (columns : List Column) where
       (rw (map_take (λ (c : L.Column). c.range) h.total (map column_of columns))
       (window h.width h.first h.total (L.ranges_of (map column_of columns)) held.inside))
 
-  change_field : (s : List ℕ) (kind p : ℕ)
+  pub change_field : (s : List ℕ) (kind p : ℕ)
       → change_at s kind h.first (ranges_at columns h.first h.width) p
       ≡ change_at s kind (L.first_of (widths_of h) h.changed) (L.table_of (widths_of h) h.changed (L.ranges_of (map column_of (take h.total columns)))) p
   change_field s kind p =
@@ -85,48 +88,48 @@ module _ (h : Shape) (held : ShapeHeld h) (columns : List Column) where
 -- ---- none visible
 
 module _ (s : List ℕ) (kind changed : ℕ) (ws : List ℕ) (cs : List L.Column) (p : ℕ) where
-  when_seen : (l : List ℕ) → L.visible_from 0 cs ≡ l → some l ≡ true → from_condition s kind changed ws cs p ≡ from_visible s kind changed ws cs p
+  pub when_seen : (l : List ℕ) → L.visible_from 0 cs ≡ l → some l ≡ true → from_condition s kind changed ws cs p ≡ from_visible s kind changed ws cs p
   unfolding from_visible
   when_seen [] e h = absurd (cc)
   when_seen (i ∷ is) e h = rw e refl
 
-  when_unseen : (l : List ℕ) → L.visible_from 0 cs ≡ l → some l ≡ false → refused 8 p ≡ from_visible s kind changed ws cs p
+  pub when_unseen : (l : List ℕ) → L.visible_from 0 cs ≡ l → some l ≡ false → refused 8 p ≡ from_visible s kind changed ws cs p
   unfolding from_visible
   when_unseen [] e h = rw e refl
   when_unseen (i ∷ is) e h = absurd (cc)
 
--- ---- the head
+-- ---- the version
 
--- the four tests of the head, before t
-abbrev tested : {A : Type 0} → Bool → Bool → Bool → Bool → Outcome A → Outcome A
-tested a b c d t = cond a (cond b (cond c (cond d t (refused 3 3)) (refused 1 3)) (refused 2 0)) (refused 1 0)
+-- its two tests, before t
+abbrev tested : {A : Type 0} → Bool → Bool → Outcome A → Outcome A
+tested a b t = cond a (cond b t (refused 3 3)) (refused 1 3)
 
-tested_good : (a b c d : Bool) (x v : Version) (t : Read) → good x ≡ tested a b c d (good v) → (tested a b c d t ≡ t) × (x ≡ v)
-tested_good true true true true x v t e = (refl, cc)
-tested_good true true true false x v t e = absurd (not_both e)
-tested_good true true false d x v t e = absurd (not_both e)
-tested_good true false c d x v t e = absurd (not_both e)
-tested_good false b c d x v t e = absurd (not_both e)
+tested_good : (a b : Bool) (x v : Version) (t : Read) → good x ≡ tested a b (good v) → (tested a b t ≡ t) × (x ≡ v)
+tested_good true true x v t e = (refl, cc)
+tested_good true false x v t e = absurd (not_both e)
+tested_good false b x v t e = absurd (not_both e)
 
-tested_refused : (a b c d : Bool) (n p : ℕ) (v : Version) (t : Read) → refused n p ≡ tested a b c d (good v) → refused n p ≡ tested a b c d t
-tested_refused true true true true n p v t e = absurd (not_both (sym e))
-tested_refused true true true false n p v t e = cc
-tested_refused true true false d n p v t e = cc
-tested_refused true false c d n p v t e = cc
-tested_refused false b c d n p v t e = cc
+tested_refused : (a b : Bool) (n p : ℕ) (v : Version) (t : Read) → refused n p ≡ tested a b (good v) → refused n p ≡ tested a b t
+tested_refused true true n p v t e = absurd (not_both (sym e))
+tested_refused true false n p v t e = cc
+tested_refused false b n p v t e = cc
 
-pub head_refused : (s : List ℕ) (n p : ℕ) → refused n p ≡ head s → refused n p ≡ read_of s
-unfolding head read_under from_version
-head_refused s n p e = tested_refused (leb 3 (length s)) (marked s) (leb 5 (length s)) (versioned (version_in s)) n p _ (from_tables limits s 5) e
+pub version_refused : (s : List ℕ) (n p : ℕ) → refused n p ≡ version_at s → refused n p ≡ from_version limits s
+unfolding version_at from_version
+version_refused s n p e = tested_refused (leb 5 (length s)) (versioned (version_in s)) n p _ (from_tables limits s 5) e
 
-pub head_good : (s : List ℕ) (v : Version) → good v ≡ head s → (read_of s ≡ from_tables limits s 5) × (v ≡ L.version_by (get_or s 3 0))
-unfolding head read_under from_version
-head_good s v e = tested_good (leb 3 (length s)) (marked s) (leb 5 (length s)) (versioned (version_in s)) v _ (from_tables limits s 5) e
+pub version_good : (s : List ℕ) (v : Version) → good v ≡ version_at s → (from_version limits s ≡ from_tables limits s 5) × (v ≡ L.version_by (get_or s 3 0))
+unfolding version_at from_version
+version_good s v e = tested_good (leb 5 (length s)) (versioned (version_in s)) v _ (from_tables limits s 5) e
 
 module _ {s : List ℕ} {v : Version} {at : Cursor} {A : Type 0} (g : A → M.Question) {r : Result A Refusal} where
-  -- the answer, from the fields that follow the head
-  pub after_head : good v ≡ head s → at.bytes.now ≡ s → at.at ≡ 5 → Ends g (λ s p. from_tables limits s p) at r → outcome_of g r ≡ read_of s
-  after_head h b p t = t.answer ∙ rw (b, p) (sym (head_good s v h).0)
+  -- the answer, from the fields that follow the version
+  pub after_version : good v ≡ version_at s → at.bytes.now ≡ s → at.at ≡ 5 → Ends g (λ s p. from_tables limits s p) at r → outcome_of g r ≡ from_version limits s
+  after_version h b p t = t.answer ∙ rw (b, p) (sym (version_good s v h).0)
+
+-- what the fields give is accepted, and so is what stands from the version on
+pub version_accepted : (s : List ℕ) (v : Version) (q : M.Question) → good v ≡ version_at s → from_version limits s ≡ good q → Accepted q
+version_accepted s v q h e = subst (Holds Accepted) (sym (version_good s v h).0 ∙ e) (from_tables_lem limits s 5)
 
 -- ---- the fields, one after another
 

@@ -2,12 +2,13 @@
 #![tactic(auto)]
 
 ghost use Rattle.std.specs.Prelude.{◌≡◌};
-ghost use Rattle.page_questions.specs.Reader.{read_of};
+ghost use Rattle.page_meaning.specs.Limits.{limits};
+ghost use Rattle.page_questions.specs.Reader.{read_of, from_version};
 ghost use Rattle.question.specs.Held.{Reads, version_of, verb_number};
 ghost use Rattle.page_questions.specs.Reader.{byte};
 ghost use Rattle.refusal.specs.Outcomes.{outcome_of};
 ghost use Rattle.fields.specs.Steps.{Steps};
-ghost use Rattle.reader.specs.Head.{head};
+ghost use Rattle.reader.specs.Head.{version_at};
 
 use changes::change::change;
 use fields::cursor::Cursor;
@@ -18,16 +19,10 @@ use tables::columns::{columns, some_visible};
 use tables::widths::{shape, widths};
 use tokens::condition::condition;
 
-// The mark, and the version: by which rule the question is meant. Its number becomes a rule here: nothing else says which it is.
-fn head(s: &[u8]) -> Result<Version, Refusal>
-    ensures { outcome_of version_of result ≡ head s.now }
+// The version: by which rule the question is meant. Its number becomes a rule here: nothing else says which it is.
+fn version(s: &[u8]) -> Result<Version, Refusal>
+    ensures { outcome_of version_of result ≡ version_at s.now }
 {
-    if s.len() < 3 {
-        return Err(Fault::Short.at(0));
-    }
-    if !s.starts_with(b"VUQ") {
-        return Err(Fault::Mark.at(0));
-    }
     if s.len() < 5 {
         return Err(Fault::Short.at(3));
     }
@@ -49,11 +44,11 @@ fn verb(from: &mut Cursor) -> Result<Verb, Refusal>
     })
 }
 
-// The answer to any byte string.
-pub fn read(s: &[u8]) -> Result<Question, Refusal>
-    ensures { Reads result (read_of s.now) }
+// The answer from the version on, whatever stands in the place of the mark.
+pub fn from_version(s: &[u8]) -> Result<Question, Refusal>
+    ensures { Reads result (from_version limits s.now) }
 {
-    let version = head(s)?;
+    let version = version(s)?;
     let mut from = Cursor { bytes: s, at: 5 };
     let tables = from.byte(Fault::Code, 1, PAST_TABLES)? as usize;
     let verb = verb(&mut from)?;
@@ -76,4 +71,17 @@ pub fn read(s: &[u8]) -> Result<Question, Refusal>
         change,
         version,
     })
+}
+
+// The answer to any byte string.
+pub fn read(s: &[u8]) -> Result<Question, Refusal>
+    ensures { Reads result (read_of s.now) }
+{
+    if s.len() < 3 {
+        return Err(Fault::Short.at(0));
+    }
+    if !s.starts_with(b"VUQ") {
+        return Err(Fault::Mark.at(0));
+    }
+    from_version(s)
 }
