@@ -1,20 +1,24 @@
 -- A question's columns and conditions, as a context lends them, are the question's.
 use Rattle.std.proofs.Common.{◌≡◌, ℕ, zero, suc, ◌≤◌, ◌<◌, Bool, true, false, List, [], ◌∷◌, ◌++◌, map, length, take, drop, ℤ, refl, sym, ap, ◌∙◌, subst, arith}
+use Rattle.std.proofs.Math.ListN.{length-map}
 use Rattle.std.proofs.Math.Seq.{length-take-le}
-use Rattle.page_meaning.specs.Contents.{Range, become}
+use Rattle.page_meaning.specs.Contents.{Range, become, columns}
 use Rattle.page_meaning.specs.Contents as M
 use Rattle.page_meaning.specs.WellFormed.{Reads}
-use Rattle.page_questions.specs.Layout.{visible_from, question_from}
-use Rattle.question.specs.Held.{column_of, ranges_of, question_of}
-use Rattle.question.specs.declared.types.Question.{Question}
+use Rattle.page_questions.specs.Layout.{ranges_of, visible_from, question_from}
+use Rattle.question.specs.Held.{column_of, question_with, ShapeHeld}
+use Rattle.question.specs.declared.types.Change.{Change}
 use Rattle.question.specs.declared.types.Column.{Column}
+use Rattle.question.specs.declared.types.Condition.{Condition}
+use Rattle.question.specs.declared.types.Shape.{Shape}
+use Rattle.question.specs.declared.types.Version.{Version}
 use Rattle.page_formulas.specs.Compilation as C
 use Rattle.page_formulas.specs.Formulas.{bounded_new, bounded_all}
-use Rattle.sights.specs.Sights.{There, Whole, shown_from, modes_of}
-use Rattle.sights.proofs.Shapes.{columns_length, first_is, changed_is, condition_is}
+use Rattle.sights.specs.Sights.{shown_from, modes_of}
+use Rattle.sights.proofs.Shapes.{first_with, columns_with, changed_with}
 use Rattle.pieces.specs.Pieces.{tokens_of, table_from, Compilable}
 use Rattle.pieces.proofs.Tests.{no_modes}
-use Rattle.formula_contexts.specs.Contexts.{listed_tokens, Able, Under, Done}
+use Rattle.formula_contexts.specs.Contexts.{Of, Under, Made}
 use Rattle.formula_contexts.specs.declared.contexts.Context.{Context}
 
 -- ---- lists of columns
@@ -44,48 +48,58 @@ tests_take σ (suc n) (g ∷ gs) (m ∷ ms) h = ap (λ l. bounded_new m σ g ++ 
 
 -- ---- a question's context
 
-module _ (q : Question) (w : Whole q) (a : Able q) where
-  visible_are : (question_of q).visible ≡ shown_from 0 (map (λ c. c.visible) (take q.shape.total q.columns))
-  unfolding question_of question_from
-  visible_are = shown_visible (take q.shape.total q.columns) 0
+module _ (v : Version) (h : Shape) (cs : List Column) (d : Condition) (ch : Change) (held : ShapeHeld h) (l : h.total ≤ length cs) where
+  abbrev Q : M.Question
+  Q = question_with v h cs d ch
 
-  total_is : length (take q.shape.total q.columns) ≡ q.shape.total
-  total_is = length-take-le q.shape.total q.columns (omega (arith, w.long, w.held.shape.few_columns))
+  visible_are : Q.visible ≡ shown_from 0 (map (λ c. c.visible) (take h.total cs))
+  unfolding question_from
+  visible_are = shown_visible (take h.total cs) 0
 
-  tests_same : (σ : C.Sight) (ms : List M.Mode) → length ms ≤ q.shape.width → bounded_all σ (table_from q.shape.first (take q.shape.total q.columns)) ms ≡ bounded_all σ (question_of q).changed ms
-  tests_same σ ms h =
-      ap (λ gs. bounded_all σ gs ms) (table_is q.shape.first (take q.shape.total q.columns))
-      ∙ tests_take σ q.shape.width (drop q.shape.first (ranges_of q)) ms h
-      ∙ ap (λ gs. bounded_all σ gs ms) (sym (changed_is q w))
+  total_is : length (take h.total cs) ≡ h.total
+  total_is = length-take-le h.total cs l
 
-  module _ (r : Context) (cs : r.sight.columns.now ≡ take q.shape.total q.columns) (first : r.sight.first ≡ q.shape.first) (listed : r.listed.now ≡ listed_tokens q) (few : length (modes_of r.sight) ≤ q.shape.width) where
-    grounded : Under (question_of q) r
+  columns_count : length (columns Q) ≡ h.total
+  columns_count = ap length (columns_with v h cs d ch held l) ∙ simp length-map total_is
+
+  tests_same : (σ : C.Sight) (ms : List M.Mode) → length ms ≤ h.width → bounded_all σ (table_from h.first (take h.total cs)) ms ≡ bounded_all σ Q.changed ms
+  tests_same σ ms few =
+      ap (λ gs. bounded_all σ gs ms) (table_is h.first (take h.total cs))
+      ∙ tests_take σ h.width (drop h.first (ranges_of (map column_of (take h.total cs)))) ms few
+      ∙ ap (λ gs. bounded_all σ gs ms) (sym (changed_with v h cs d ch held l))
+
+  listed_is : Q.condition ≡ tokens_of (take d.count d.tokens)
+  unfolding question_from
+  listed_is = refl
+
+  module _ (a : Compilable (Of h) (take d.count d.tokens)) (r : Context) (same : r.sight.columns.now ≡ take h.total cs) (first : r.sight.first ≡ h.first) (listed : r.listed.now ≡ take d.count d.tokens) (few : length (modes_of r.sight) ≤ h.width) where
+    grounded : Under Q r
     grounded =
         record {
-          first = first_is q w ∙ sym first;
-          total = columns_length q w ∙ sym (ap length cs ∙ total_is);
-          visible = rw cs visible_are;
-          listed = condition_is q ∙ ap tokens_of (sym listed);
-          tests = λ σ. rw (cs, first) (tests_same σ (modes_of r.sight) few);
+          first = first_with v h cs d ch held l ∙ sym first;
+          total = columns_count ∙ sym (ap length same ∙ total_is);
+          visible = rw same visible_are;
+          listed = listed_is ∙ ap tokens_of (sym listed);
+          tests = λ σ. rw (same, first) (tests_same σ (modes_of r.sight) few);
         }
 
-    pub grounds_done : r.sight.moved ≡ true → Compilable (There q) r.chosen.now → Reads (There q) (modes_of r.sight) → Done q (tokens_of r.chosen.now) (modes_of r.sight) r.pairs r
+    pub grounds_done : r.sight.moved ≡ true → Compilable (Of h) r.chosen.now → Reads (Of h) (modes_of r.sight) → Made Q (tokens_of r.chosen.now) (modes_of r.sight) r.pairs r
     grounds_done moved ready reads =
-        let n : length r.sight.columns.now ≡ q.shape.total = ap length cs ∙ total_is in
+        let n : length r.sight.columns.now ≡ h.total = ap length same ∙ total_is in
         record {
           legible =
               record {
-                question = question_of q;
+                question = Q;
                 under = grounded;
                 usable =
                     record {
-                      inside = omega (arith, w.held.shape.inside);
-                      few = omega (arith, w.held.shape.few_columns);
-                      reads = rw moved (there (λ Q. Reads Q (modes_of r.sight)) reads);
+                      inside = omega (arith, held.inside);
+                      few = omega (arith, held.few_columns);
+                      reads = rw moved (there (λ P. Reads P (modes_of r.sight)) reads);
                     };
                 moved = moved;
-                listed = rw listed (there (λ Q. Compilable Q (listed_tokens q)) a);
-                chosen = there (λ Q. Compilable Q r.chosen.now) ready;
+                listed = rw listed (there (λ P. Compilable P (take d.count d.tokens)) a);
+                chosen = there (λ P. Compilable P r.chosen.now) ready;
               };
           under = grounded;
           condition = refl;
@@ -93,8 +107,8 @@ module _ (q : Question) (w : Whole q) (a : Able q) where
           pairs = refl;
         }
       where
-        there : (P : (ℕ → Type 0) → Type 0) → P (There q) → P (λ i. i < length r.sight.columns.now)
-        there P p = subst (λ n. P (λ i. i < n)) (sym (ap length cs ∙ total_is)) p
+        there : (P : (ℕ → Type 0) → Type 0) → P (Of h) → P (λ i. i < length r.sight.columns.now)
+        there P p = subst (λ n. P (λ i. i < n)) (sym (ap length same ∙ total_is)) p
 
 -- ---- a row put in: new values that come from no column
 pub reads_become : (P : ℕ → Type 0) (vs : List ℤ) → Reads P (map become vs)

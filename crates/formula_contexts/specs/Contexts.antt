@@ -1,5 +1,6 @@
 -- What the code takes for granted of a question when it writes its formulas, and what they are read under.
-use Rattle.std.specs.Prelude.{ℕ, ◌≡◌, Bool, true, List, [], map, length, get_or, take}
+use Rattle.std.specs.Prelude.{ℕ, ◌<◌, ◌≡◌, Bool, true, List, [], map, length, get_or, take, ℤ}
+use Rattle.page_meaning.specs.Limits.{most_columns}
 use Rattle.page_meaning.specs.Contents.{Mode, become, columns, first}
 use Rattle.page_meaning.specs.Contents as M
 use Rattle.page_meaning.specs.Condition as C
@@ -7,6 +8,8 @@ use Rattle.page_meaning.specs.WellFormed.{Reads}
 use Rattle.question.specs.Held.{condition_of, setting_of, question_of}
 use Rattle.question.specs.Held as H
 use Rattle.question.specs.declared.types.Question.{Question}
+use Rattle.question.specs.declared.types.Shape.{Shape}
+use Rattle.question.specs.declared.types.Setting.{Setting}
 use Rattle.question.specs.declared.types.Token.{Token}
 use Rattle.question.specs.declared.types.Row.{Row}
 use Rattle.question.specs.declared.types.Verb.{Verb}
@@ -23,6 +26,10 @@ use Rattle.formula_contexts.specs.declared.contexts.Context.{Context}
 -- the modify's modes
 abbrev pub settled_modes : Question → List Mode
 settled_modes q = map setting_of (take q.shape.width q.change.settings)
+
+-- a column of these tables
+abbrev pub Of : Shape → ℕ → Type 0
+Of h i = i < h.total
 
 -- the tokens of its list's condition, and of its change's
 abbrev pub listed_tokens : Question → List Token
@@ -89,10 +96,19 @@ pub record Legible (d : Context) : Type 0 where
   pub listed : Compilable (Has d.sight) d.listed.now
   pub chosen : Compilable (Has d.sight) d.chosen.now
 
--- a question's context, as it is declared
-pub record Done (q : Question) (d : C.Condition) (ms : List Mode) (two : Bool) (r : Context) : Type 0 where
+-- the context of the question Q, as it is declared
+pub record Made (Q : M.Question) (d : C.Condition) (ms : List Mode) (two : Bool) (r : Context) : Type 0 where
   pub legible : Legible r
-  pub under : Under (question_of q) r
+  pub under : Under Q r
   pub condition : tokens_of r.chosen.now ≡ d
   pub modes : modes_of r.sight ≡ ms
   pub pairs : r.pairs ≡ two
+
+-- and of a declared question
+abbrev pub Done : Question → C.Condition → List Mode → Bool → Context → Type 0
+Done q d ms two r = Made (question_of q) d ms two r
+
+-- settings that put the values in
+pub record Becomes (vs : List ℤ) (ss : List Setting) : Type 0 where
+  pub long : length ss ≡ most_columns
+  pub modes : map setting_of ss ≡ map become vs

@@ -30,34 +30,50 @@ first_with v h cs d ch held l =
     let all : length (map column_of (take h.total cs)) ≡ total (widths_of h) = omega (arith, length-map (take h.total cs) column_of, length-take-le h.total cs l, held.total) in
     first_from (widths_of h) h.changed (map column_of (take h.total cs)) (width_there (widths_of h) h.changed (omega (arith, held.some_column, held.width))) all (H.version_of v) (H.condition_of d) (H.change_of h.width ch) ∙ sym held.first
 
+-- its columns and its changed table, likewise
+module _ (v : Version) (h : Shape) (cs : List Column) (d : Condition) (ch : Change) (held : ShapeHeld h) (l : h.total ≤ length cs) where
+  inside : h.changed < length (widths_of h)
+  inside = width_there (widths_of h) h.changed (omega (arith, held.some_column, held.width))
+
+  whole : length (map column_of (take h.total cs)) ≡ total (widths_of h)
+  whole = omega (arith, length-map (take h.total cs) column_of, length-take-le h.total cs l, held.total)
+
+  pub columns_with : columns (question_with v h cs d ch) ≡ L.ranges_of (map column_of (take h.total cs))
+  columns_with = columns_from (widths_of h) h.changed (map column_of (take h.total cs)) inside whole _ _ _
+
+  pub changed_with : (question_with v h cs d ch).changed ≡ take h.width (drop h.first (L.ranges_of (map column_of (take h.total cs))))
+  unfolding question_from
+  changed_with = rw (held.width, held.first) refl
+
+  pub changed_length_with : length (question_with v h cs d ch).changed ≡ h.width
+  unfolding question_from
+  changed_length_with = table_length (widths_of h) h.changed (map column_of (take h.total cs)) inside whole ∙ sym held.width
+
 module _ (q : Question) (w : Whole q) where
+  room : q.shape.total ≤ length q.columns
+  room = omega (arith, w.long, w.held.shape.few_columns)
+
   pub ranges_length : length (ranges_of q) ≡ q.shape.total
-  ranges_length = simp length-map (length-take-le q.shape.total q.columns (omega (arith, w.long, w.held.shape.few_columns)))
-
-  inside : q.shape.changed < length (widths_of q.shape)
-  inside = width_there (widths_of q.shape) q.shape.changed (omega (arith, w.held.shape.some_column, w.held.shape.width))
-
-  whole : length (H.columns_of q) ≡ total (widths_of q.shape)
-  whole = omega (arith, length-map (H.columns_of q) (λ c. c.range), ranges_length, w.held.shape.total)
+  ranges_length = simp length-map (length-take-le q.shape.total q.columns room)
 
   pub columns_are : columns (question_of q) ≡ ranges_of q
   unfolding question_of
-  columns_are = columns_from (widths_of q.shape) q.shape.changed (H.columns_of q) inside whole _ _ _
+  columns_are = columns_with q.version q.shape q.columns q.condition q.change w.held.shape room
 
   pub columns_length : length (columns (question_of q)) ≡ q.shape.total
   columns_length = ap length columns_are ∙ ranges_length
 
   pub first_is : first (question_of q) ≡ q.shape.first
   unfolding question_of
-  first_is = first_with q.version q.shape q.columns q.condition q.change w.held.shape (omega (arith, w.long, w.held.shape.few_columns))
+  first_is = first_with q.version q.shape q.columns q.condition q.change w.held.shape room
 
   pub changed_is : (question_of q).changed ≡ take q.shape.width (drop q.shape.first (ranges_of q))
-  unfolding question_of question_from
-  changed_is = rw (w.held.shape.width, w.held.shape.first) refl
+  unfolding question_of
+  changed_is = changed_with q.version q.shape q.columns q.condition q.change w.held.shape room
 
   pub changed_length : length (question_of q).changed ≡ q.shape.width
-  unfolding question_of question_from
-  changed_length = table_length (widths_of q.shape) q.shape.changed (H.columns_of q) inside whole ∙ sym w.held.shape.width
+  unfolding question_of
+  changed_length = changed_length_with q.version q.shape q.columns q.condition q.change w.held.shape room
 
 -- ---- the visible columns
 
