@@ -36,7 +36,7 @@ module _ (v : Vertices) (rs : Ranges) (s : Spans v rs) (o : Option Range) (long 
       ap (λ n. entry_of (get_or (set v.ranges v.count o) n None)) n ∙ ap entry_of (get_or-set_same v.ranges v.count o None (omega arith)) ∙ sym (last rs (entry_of o) k e)
   entry_at k (no h) = ap entry_of (get_or-set_other v.ranges v.count (suc k) o None (λ e. h (omega (arith, s.count)))) ∙ s.covers.agree k ∙ sym (other rs (entry_of o) k h)
 
-  spans_add : Spans (widened v o) (rs ++ (entry_of o ∷ []))
+  pub spans_add : Spans (widened v o) (rs ++ (entry_of o ∷ []))
   spans_add =
       record {
         count = omega (arith, s.count, length-append rs (entry_of o ∷ []));

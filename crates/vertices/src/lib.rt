@@ -13,11 +13,18 @@ use limits::VERTICES;
 use program::types::{ONLY_ZERO, Range, Vertices};
 use question::types::Column;
 
-// What a column's vertex ranges over; a visible column has no vertex of the second row.
+// A visible column has no vertex of the second row.
+pub fn there(second: bool, visible: bool) -> bool
+    ensures { result ≡ not (second && visible) }
+{
+    !(second && visible)
+}
+
+// What a column's vertex ranges over, where it is there.
 fn entry(second: bool, c: &Column) -> Option<Range>
     ensures { entry_of result ≡ range_if (not (second && c.now.visible)) (column_of c.now).range }
 {
-    if second && c.visible {
+    if !there(second, c.visible) {
         return None;
     }
     Some(Range {
