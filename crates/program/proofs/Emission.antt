@@ -19,10 +19,10 @@ map_append f [] t = refl
 map_append f (a ∷ s) t = ap (λ l. f a ∷ l) (map_append f s t)
 
 -- one more entry after the first n of an array of N
-push : {A B : Type 0} (f : A → B) (N : ℕ) (l : List A) (n : ℕ) (a : A) → length l ≡ N → n < N → map f (take (n + 1) (set l n a)) ≡ map f (take n l) ++ (f a ∷ [])
+pub push : {A B : Type 0} (f : A → B) (N : ℕ) (l : List A) (n : ℕ) (a : A) → length l ≡ N → n < N → map f (take (n + 1) (set l n a)) ≡ map f (take n l) ++ (f a ∷ [])
 push f N l n a e h = ap (map f) (rw add-one (take-suc-set l n a (omega arith))) ∙ map_append f (take n l) (a ∷ [])
 
-kinds_append : (x y : P.Program) → kinds_of (x ++ y) ≡ kinds_of x ++ kinds_of y
+pub kinds_append : (x y : P.Program) → kinds_of (x ++ y) ≡ kinds_of x ++ kinds_of y
 unfolding kinds_of
 kinds_append [] y = refl
 kinds_append (i ∷ x) y = ap (λ l. kind_of i ∷ l) (kinds_append x y)

@@ -2,6 +2,7 @@
 ghost use Rattle.std.specs.Prelude.{◌≡◌, ◌≤◌, [], ◌∷◌};
 ghost use Rattle.page_meaning.specs.Limits.{most_decisions};
 ghost use Rattle.page_meaning.specs.Condition.{equal};
+ghost use Rattle.page_formulas.specs.Kinds.{kind_of};
 ghost use Rattle.page_formulas.specs.Program.{place};
 ghost use Rattle.page_formulas.specs.Costs.{most_instructions};
 ghost use Rattle.page_formulas.specs.Compilation.{at_most_place, below_place, comparison};
@@ -13,6 +14,13 @@ use crate::types::{Formula, Instruction, NOWHERE, Place, Program, Term, Vertices
 use ints::weights::{difference, sum};
 use limits::{INSTRUCTIONS, PLACES, VERTICES};
 use question::types::Op;
+
+// An instruction's number, as the pages number them: the variants stand in that order. Nothing here calls it: it stands for its contract.
+pub fn kind(i: Instruction) -> u8
+    ensures { result ≡ kind_of (instr_of i) }
+{
+    i as u8
+}
 
 impl Program {
     // Room for a program: no instruction yet.
