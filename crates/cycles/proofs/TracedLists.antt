@@ -65,7 +65,7 @@ module _ (g : Grid) (n s count : ℕ) (m : Summable n g) (hn : (s < n) × (0 < c
       u_is : u ≡ first (test (weight g) (n - 1) (count - 1 - i) s sum at) (suc (n - 1))
       u_is = e ∙ next_is
 
-      next_below : u < n
+      pub next_below : u < n
       next_below = omega (arith, u_is, ok.0, m)
 
       pub next_small : Bounded ((i + 1) * far_n) (sum +ℤ weight g at u)

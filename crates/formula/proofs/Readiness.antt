@@ -25,7 +25,7 @@ module _ (q : Question) (whole : Whole q) (ok : Accepted (question_of q)) where
   few : {A : Type 0} (n : ℕ) (l : List A) → n ≤ most_tokens → length (take n l) ≤ most_tokens
   few n l h = simp length-take (omega arith)
 
-  able : Able q
+  pub able : Able q
   able =
       record {
         few = few q.condition.count q.condition.tokens whole.held.few_tokens;

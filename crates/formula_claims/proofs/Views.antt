@@ -64,10 +64,10 @@ module _ (Q : Question) (d : Context) (u : Under Q d) where
     abbrev new : Sight
     new = view_of d.sight (d.pairs && second) true
 
-    old_is : sight_of old ≡ row
+    pub old_is : sight_of old ≡ row
     old_is = row_is (d.pairs && second) false
 
-    new_is : sight_of new ≡ after Q modes row
+    pub new_is : sight_of new ≡ after Q modes row
     unfolding after
     new_is = ap₂ {C = C.Sight} (λ (m : ℕ → Mode) (σ : C.Sight) i. new_term (m i) σ (σ i)) (mode_is (d.pairs && second)) (row_is (d.pairs && second) true)
 
@@ -90,7 +90,7 @@ module _ (Q : Question) (d : Context) (u : Under Q d) where
 
   -- ---- differences
 
-  than_is : (other moved : Bool) → sight_of (view_of d.sight (d.pairs && other) moved) ≡ cond moved (after Q modes (rows_of Q d.pairs other)) (rows_of Q d.pairs other)
+  pub than_is : (other moved : Bool) → sight_of (view_of d.sight (d.pairs && other) moved) ≡ cond moved (after Q modes (rows_of Q d.pairs other)) (rows_of Q d.pairs other)
   than_is other true = new_is other
   than_is other false = old_is other
 

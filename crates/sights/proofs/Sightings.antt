@@ -21,7 +21,7 @@ from zero ms i h = ap (λ k. get_or ms k keep) (omega arith)
 from (suc n) ms zero h = absurd (omega arith)
 from (suc n) ms (suc i) h = from n ms i (omega arith) ∙ ap (λ k. get_or ms k keep) (omega arith)
 
-reads_at : (P : ℕ → Type 0) (ms : List Mode) (j : ℕ) → Reads P ms → ModeReads P (get_or ms j keep)
+pub reads_at : (P : ℕ → Type 0) (ms : List Mode) (j : ℕ) → Reads P ms → ModeReads P (get_or ms j keep)
 reads_at P [] j r = tt
 reads_at P (keep ∷ ms) zero r = tt
 reads_at P (become k ∷ ms) zero r = tt
