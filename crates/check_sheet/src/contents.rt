@@ -1,6 +1,6 @@
 // The contents that a no sheet means: one row a table from its values; for an insert the changed table is empty; where two contents
 // are meant and there is one row, the second are all empty.
-use printing::numbers::rows;
+use printing::numbers::{Value, rows};
 use question::types::{Asked, Verb};
 use std::io;
 use std::ops::Range;
@@ -26,7 +26,7 @@ fn line<F: Fn(usize) -> bool>(
     rt.print(label)?;
     for (i, value) in row.iter().enumerate() {
         if has_value(i) {
-            let value = i32::from_le_bytes(*value);
+            let value = Value(i32::from_le_bytes(*value));
             print!(rt; "{value:>12}")?;
         } else {
             print!(rt; "{:>12}", "-")?;

@@ -1,14 +1,34 @@
 // The values of rows, four bytes each.
-ghost use Rattle.std.specs.Prelude.{◌≡◌, ◌+◌, ◌*◌, ◌<◌, drop, length, take, nat_abs, MatchOption};
+ghost use Rattle.std.specs.Prelude.{◌≡◌, ◌+◌, ◌*◌, ◌<◌, drop, length, take, nat_abs, MatchOption, Some, [], decimal};
+ghost use Rattle.std.specs.Int.{is_negative};
+ghost use Rattle.std.specs.Fmt.{padded_integral, signed_decimal};
 ghost use Rattle.printing.specs.Rows.{values_of};
 
+use std::fmt::{self, InlineText, Write};
 use std::io;
 
-// A value without its sign. Values are printed with theirs by the library; this stays for its contract and the edit magnitude_one_short.
+// A value without its sign: no negation that could fail at the least i32.
 pub fn magnitude(z: i32) -> u64
     ensures { result ≡ nat_abs z }
 {
     u64::from(z.unsigned_abs())
+}
+
+// A value as it is printed: a minus before a negative one, and the digits of its size.
+#[derive(Clone, Copy)]
+pub struct Value(pub i32);
+
+impl fmt::Display for Value {
+    ghost output = { λ v. Some (signed_decimal v.0) };
+
+    ghost styled_output = { λ v s. Some (padded_integral s (is_negative v.0) [] (decimal (nat_abs v.0))) };
+
+    fn fmt<W: fmt::Write>(&self, f: &mut fmt::Formatter<W>) -> fmt::Result {
+        // no u64 has more digits
+        let mut digits = InlineText::<20>::new();
+        write!(digits, "{}", magnitude(self.0))?;
+        f.pad_integral(self.0 >= 0, "", digits.as_str())
+    }
 }
 
 // The rows of a no sheet, after mark, version, asked, verdict and the formula's number: the first, and the second or nothing.
@@ -29,7 +49,7 @@ pub fn row(rt: &impl Print, values: &[[u8; 4]]) -> io::Result<()> {
         if i > 0 {
             rt.print(",")?;
         }
-        rt.print(i32::from_le_bytes(*value))?;
+        rt.print(Value(i32::from_le_bytes(*value)))?;
     }
     Ok(())
 }
