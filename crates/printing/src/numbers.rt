@@ -43,8 +43,9 @@ pub fn rows(sheet: &[u8], columns: usize) -> Option<(&[[u8; 4]], &[[u8; 4]])>
     }
 }
 
-// The values of a row, with commas between.
-pub fn row(rt: &impl Print, values: &[[u8; 4]]) -> io::Result<()> {
+// The values that the bytes hold, four bytes each, with commas between; fewer than four that are left over hold none.
+pub fn row(rt: &impl Print, bytes: &[u8]) -> io::Result<()> {
+    let (values, _) = bytes.as_chunks::<4>();
     for (i, value) in values.iter().enumerate() {
         if i > 0 {
             rt.print(",")?;

@@ -8,10 +8,10 @@ use std::io;
 fn show_rows(rt: &impl Print, sheet: &[u8], columns: usize) -> io::Result<()> {
     if let Some((first, second)) = rows(sheet, columns) {
         rt.print(": ")?;
-        row(rt, first)?;
+        row(rt, first.as_flattened())?;
         if !second.is_empty() {
             rt.print(" with ")?;
-            row(rt, second)?;
+            row(rt, second.as_flattened())?;
         }
     }
     Ok(())
