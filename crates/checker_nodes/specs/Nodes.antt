@@ -26,11 +26,11 @@ vertices_of base part first count (Ok u) = let bytes = drop first part in good (
 vertices_of base part first count (Err r) = refused (number_of r.fault) (base + r.place)
 
 -- what the reading of vertices promises: they are the formula's, whatever else its ranges say; where all are there, they stand within the
--- part, and each has its range; and the place of a refusal is among them
+-- part, and each has its range; and the place of a refusal is among them, within the part or at its end
 pub record Named (ranges : List (Option Range)) (part : List ℕ) (first count : ℕ) (r : Result Unit Refusal) : Type 0 where
   pub meaning : (rs : Ranges) (base : ℕ) → Flagged ranges rs → vertices_of base part first count r ≡ vertices rs count (base + first) (drop first part)
   pub inside : IfValue r (λ u. (first + count ≤ length part) × Below (length ranges) (take count (drop first part)))
-  pub past : IfErr r (λ e. first ≤ e.place)
+  pub past : IfErr r (λ e. (first ≤ e.place) × (e.place ≤ length part))
 
 -- a grid and one fact more between its vertices, with weights that add up exactly
 pub record Checkable (g : Grid) (e : Edge) : Type 0 where

@@ -20,8 +20,8 @@ returns-in_err-named c = λ F base f.
     let r = c.in_err-named.field-0.0 in
     let p = err_from_is_err_and c.from_residual.result c.from_residual.ensures.1 in
     let n = c.in_err-named.ensures in
-    let e : base + (first + (r.place - first)) ≡ base + r.place = omega (arith, n.past) in
-    let d : base + first + (r.place - first) ≡ base + r.place = omega (arith, n.past) in
+    let e : base + (first + (r.place - first)) ≡ base + r.place = omega (arith, n.past.0) in
+    let d : base + first + (r.place - first) ≡ base + r.place = omega (arith, n.past.0) in
     rw (p.1, p.2, ← e) (cycle_lacking most_vertices F (with_fact a.g.now.rows a.last) a.part.now a.at base c.if-part-from.false c.if-count-eq0.false c.if-count-gt-LONGEST.false (number_of r.fault) (r.place - first) (rw d (n.meaning F.ranges base f)))
 
 pub below_zero-requires-clause-walk : goal.below_zero-requires-clause-walk

@@ -27,7 +27,7 @@ returns-then-part-place c = let l = c.loop-i in
           let e : base + (a.first + l.i) ≡ base + a.first + l.i = omega arith in
           ap (refused 11) e ∙ named_short rs (base + a.first) bytes l.i a.count c.loop-i-test.true (omega (arith, length-drop a.first a.part.now)) (omega (arith, length-drop a.first a.part.now)) (l.invariant.shown rs f);
       inside = tt;
-      past = omega arith;
+      past = (omega arith, omega arith);
     })
 
 pub returns-then-not-shown : goal.returns-then-not-shown
@@ -39,7 +39,7 @@ returns-then-not-shown c = let l = c.loop-i in
           let e : base + (a.first + l.i) ≡ base + a.first + l.i = omega arith in
           ap (refused 14) e ∙ named_lacking rs (base + a.first) bytes l.i a.count c.loop-i-test.true (omega (arith, length-drop a.first a.part.now)) (l.invariant.shown rs f) (tested a.ranges.now rs a.part.now a.first l.i _ f (sym c.shown.ensures ∙ c.if-not-shown.true));
       inside = tt;
-      past = omega arith;
+      past = (omega arith, omega arith);
     })
 
 pub loop-i-preserved : goal.loop-i-preserved
