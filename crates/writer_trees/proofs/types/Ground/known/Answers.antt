@@ -17,12 +17,14 @@ use Rattle.writer_trees.proofs.types.Ground.known.Goals as goal
 whole : (ds es : List Bool) (n : ℕ) → es ≡ ds → n ≡ length ds → take n es ≡ ds
 whole ds es n e m = rw e (take_all n ds (omega (arith, m)))
 
+ruleset parts = (rules, whole)
+
 -- The truths that the code hands on aren't named, so that others are refused for what they are; a part of them that is the whole isn't.
 by_truths : (ks : List Instruction) (ds es : List Bool) (k : Three) → k ≡ known_kinds (map number_of ks) es → es ≡ ds → k ≡ known_kinds (map number_of ks) ds
 by_truths ks ds es k h e = h ∙ ap (known_kinds (map number_of ks)) e
 
 pub returns-clause-numbers : goal.returns-clause-numbers
-returns-clause-numbers c = by_truths c.args.self.now.instructions.now c.args.truths.now _ _ c.known.ensures (search (rules, whole))
+returns-clause-numbers c = by_truths c.args.self.now.instructions.now c.args.truths.now _ _ c.known.ensures (search parts)
 
 pub returns-clause-lent : goal.returns-clause-lent
 returns-clause-lent c = λ F lent. let x = c.args.self.now in
