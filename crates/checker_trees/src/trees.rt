@@ -19,7 +19,7 @@ use truth::decisions::Truths;
 
 // Where the check of a tree stands: its position in the part that is lent, the decisions so far, and the fact of the last of them. It isn't
 // in the grid yet: only a node 3 needs the grid with it.
-#[derive(Drop)]
+#[derive(Clone, Copy)]
 pub struct Stage {
     pub at: usize,
     pub truths: Truths,
