@@ -44,7 +44,9 @@ fn verb(from: &mut Cursor) -> Result<Verb, Refusal>
     })
 }
 
-// The answer from the version on, whatever stands in the place of the mark.
+// The answer from the version on, whatever stands in the place of the mark. It stays a call: put into its caller it had the question
+// copied once more, and a string without a mark wait for its locals.
+#[inline(never)]
 pub fn from_version(s: &[u8]) -> Result<Question, Refusal>
     ensures { Reads result (from_version limits s.now) }
 {
