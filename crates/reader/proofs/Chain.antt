@@ -18,7 +18,7 @@ use Rattle.page_questions.proofs.Guarantees.{from_tables_lem}
 use Rattle.page_meaning.specs.Limits.{limits, most_tables, most_columns}
 use Rattle.page_questions.specs.Layout as L
 use Rattle.page_questions.specs.Reader as Reader
-use Rattle.page_questions.specs.Reader.{Read, up_to, byte, many, width_at, column_at, condition_at, change_at, ending, from_change, from_condition, from_visible, from_columns, from_widths, from_changed, from_kind, from_tables, from_version, versioned, version_in}
+use Rattle.page_questions.specs.Reader.{Read, up_to, byte, many, width_at, column_at, condition_at, change_at, ending, from_change, from_condition, from_visible, from_columns, from_widths, from_changed, from_kind, from_tables, from_version, read_under, read_of, marked, versioned, version_in}
 use Rattle.refusal.specs.Outcomes.{outcome_of}
 use Rattle.refusal.specs.declared.Refusal.{Refusal}
 use Rattle.question.specs.Held.{Reads, ShapeHeld, meant, version_of, question_with, verb_number, widths_of, column_of, condition_of, change_of}
@@ -35,7 +35,7 @@ use Rattle.fields.specs.declared.cursor.Cursor.{Cursor}
 use Rattle.fields.proofs.Chain.{Ends, ends_after}
 use Rattle.changes.specs.Changes.{ranges_in}
 use Rattle.tables.specs.Shapes.{some}
-use Rattle.reader.specs.Head.{version_at}
+use Rattle.reader.specs.Head.{version_at, head}
 
 -- what was refused
 pub reads_refused : {r : Result Question Refusal} (e : Refusal) {o : Read} → IsErrAnd r (λ d. d ≡ e) → meant (Err e) ≡ o → Reads r o
@@ -122,10 +122,40 @@ pub version_good : (s : List ℕ) (v : Version) → good v ≡ version_at s → 
 unfolding version_at from_version
 version_good s v e = tested_good (leb 5 (length s)) (versioned (version_in s)) v _ (from_tables limits s 5) e
 
+-- ---- the head: the mark, then the version
+
+-- the two tests of the mark, before t
+abbrev headed : {A : Type 0} → Bool → Bool → Outcome A → Outcome A
+headed a b t = cond a (cond b t (refused 2 0)) (refused 1 0)
+
+headed_good : (a b : Bool) (x : Version) (v : Outcome Version) (t : Read) → good x ≡ headed a b v → (headed a b t ≡ t) × (good x ≡ v)
+headed_good true true x v t e = (refl, e)
+headed_good true false x v t e = absurd (not_both e)
+headed_good false b x v t e = absurd (not_both e)
+
+headed_refused : (a b : Bool) (n p : ℕ) (v : Outcome Version) (t : Read) → (refused n p ≡ v → refused n p ≡ t) → refused n p ≡ headed a b v → refused n p ≡ headed a b t
+headed_refused true true n p v t f e = f e
+headed_refused true false n p v t f e = cc
+headed_refused false b n p v t f e = cc
+
+pub head_refused : (s : List ℕ) (n p : ℕ) → refused n p ≡ head s → refused n p ≡ read_of s
+unfolding head version_at read_under
+head_refused s n p e = headed_refused (leb 3 (length s)) (marked s) n p (version_at s) (from_version limits s) (version_refused s n p) e
+
+pub head_good : (s : List ℕ) (v : Version) → good v ≡ head s → (read_of s ≡ from_tables limits s 5) × (v ≡ L.version_by (get_or s 3 0))
+unfolding head version_at read_under
+head_good s v e = let h = headed_good (leb 3 (length s)) (marked s) v (version_at s) (from_version limits s) e in
+    let w = version_good s v h.1 in
+    (h.0 ∙ w.0, w.1)
+
 module _ {s : List ℕ} {v : Version} {at : Cursor} {A : Type 0} (g : A → M.Question) {r : Result A Refusal} where
   -- the answer, from the fields that follow the version
   pub after_version : good v ≡ version_at s → at.bytes.now ≡ s → at.at ≡ 5 → Ends g (λ s p. from_tables limits s p) at r → outcome_of g r ≡ from_version limits s
   after_version h b p t = t.answer ∙ rw (b, p) (sym (version_good s v h).0)
+
+  -- and with the mark before it
+  pub after_head : good v ≡ head s → at.bytes.now ≡ s → at.at ≡ 5 → Ends g (λ s p. from_tables limits s p) at r → outcome_of g r ≡ read_of s
+  after_head h b p t = t.answer ∙ rw (b, p) (sym (head_good s v h).0)
 
 -- what the fields give is accepted, and so is what stands from the version on
 pub version_accepted : (s : List ℕ) (v : Version) (q : M.Question) → good v ≡ version_at s → from_version limits s ≡ good q → Accepted q
