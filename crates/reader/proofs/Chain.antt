@@ -98,55 +98,41 @@ module _ (s : List ℕ) (kind changed : ℕ) (ws : List ℕ) (cs : List L.Column
   when_unseen [] e h = rw e refl
   when_unseen (i ∷ is) e h = absurd (cc)
 
--- ---- the version
+-- ---- the mark and the version
 
--- its two tests, before t
-abbrev tested : {A : Type 0} → Bool → Bool → Outcome A → Outcome A
-tested a b t = cond a (cond b t (refused 3 3)) (refused 1 3)
+-- two tests before t: are the bytes there, and are they right? Both refuse at p.
+abbrev tested : {A : Type 0} → ℕ → ℕ → Bool → Bool → Outcome A → Outcome A
+tested n p a b t = cond a (cond b t (refused n p)) (refused 1 p)
 
-tested_good : (a b : Bool) (x v : Version) (t : Read) → good x ≡ tested a b (good v) → (tested a b t ≡ t) × (x ≡ v)
-tested_good true true x v t e = (refl, cc)
-tested_good true false x v t e = absurd (not_both e)
-tested_good false b x v t e = absurd (not_both e)
+tested_good : (n p : ℕ) (a b : Bool) (x : Version) (v : Outcome Version) (t : Read) → good x ≡ tested n p a b v → (tested n p a b t ≡ t) × (good x ≡ v)
+tested_good n p true true x v t e = (refl, e)
+tested_good n p true false x v t e = absurd (not_both e)
+tested_good n p false b x v t e = absurd (not_both e)
 
-tested_refused : (a b : Bool) (n p : ℕ) (v : Version) (t : Read) → refused n p ≡ tested a b (good v) → refused n p ≡ tested a b t
-tested_refused true true n p v t e = absurd (not_both (sym e))
-tested_refused true false n p v t e = cc
-tested_refused false b n p v t e = cc
+tested_refused : (n p : ℕ) (a b : Bool) (m q : ℕ) (v : Outcome Version) (t : Read) → (refused m q ≡ v → refused m q ≡ t) → refused m q ≡ tested n p a b v → refused m q ≡ tested n p a b t
+tested_refused n p true true m q v t f e = f e
+tested_refused n p true false m q v t f e = cc
+tested_refused n p false b m q v t f e = cc
 
 pub version_refused : (s : List ℕ) (n p : ℕ) → refused n p ≡ version_at s → refused n p ≡ from_version limits s
 unfolding version_at from_version
-version_refused s n p e = tested_refused (leb 5 (length s)) (versioned (version_in s)) n p _ (from_tables limits s 5) e
+version_refused s n p e = tested_refused 3 3 (leb 5 (length s)) (versioned (version_in s)) n p _ (from_tables limits s 5) (λ r. absurd (not_both (sym r))) e
 
 pub version_good : (s : List ℕ) (v : Version) → good v ≡ version_at s → (from_version limits s ≡ from_tables limits s 5) × (v ≡ L.version_by (get_or s 3 0))
 unfolding version_at from_version
-version_good s v e = tested_good (leb 5 (length s)) (versioned (version_in s)) v _ (from_tables limits s 5) e
-
--- ---- the head: the mark, then the version
-
--- the two tests of the mark, before t
-abbrev headed : {A : Type 0} → Bool → Bool → Outcome A → Outcome A
-headed a b t = cond a (cond b t (refused 2 0)) (refused 1 0)
-
-headed_good : (a b : Bool) (x : Version) (v : Outcome Version) (t : Read) → good x ≡ headed a b v → (headed a b t ≡ t) × (good x ≡ v)
-headed_good true true x v t e = (refl, e)
-headed_good true false x v t e = absurd (not_both e)
-headed_good false b x v t e = absurd (not_both e)
-
-headed_refused : (a b : Bool) (n p : ℕ) (v : Outcome Version) (t : Read) → (refused n p ≡ v → refused n p ≡ t) → refused n p ≡ headed a b v → refused n p ≡ headed a b t
-headed_refused true true n p v t f e = f e
-headed_refused true false n p v t f e = cc
-headed_refused false b n p v t f e = cc
+version_good s v e = let t = tested_good 3 3 (leb 5 (length s)) (versioned (version_in s)) v _ (from_tables limits s 5) e in
+    let g : good v ≡ good (L.version_by (get_or s 3 0)) = t.1 in
+    (t.0, cc)
 
 pub head_refused : (s : List ℕ) (n p : ℕ) → refused n p ≡ head s → refused n p ≡ read_of s
 unfolding head version_at read_under
-head_refused s n p e = headed_refused (leb 3 (length s)) (marked s) n p (version_at s) (from_version limits s) (version_refused s n p) e
+head_refused s n p e = tested_refused 2 0 (leb 3 (length s)) (marked s) n p (version_at s) (from_version limits s) (version_refused s n p) e
 
 pub head_good : (s : List ℕ) (v : Version) → good v ≡ head s → (read_of s ≡ from_tables limits s 5) × (v ≡ L.version_by (get_or s 3 0))
 unfolding head version_at read_under
-head_good s v e = let h = headed_good (leb 3 (length s)) (marked s) v (version_at s) (from_version limits s) e in
-    let w = version_good s v h.1 in
-    (h.0 ∙ w.0, w.1)
+head_good s v e = let t = tested_good 2 0 (leb 3 (length s)) (marked s) v (version_at s) (from_version limits s) e in
+    let w = version_good s v t.1 in
+    (t.0 ∙ w.0, w.1)
 
 module _ {s : List ℕ} {v : Version} {at : Cursor} {A : Type 0} (g : A → M.Question) {r : Result A Refusal} where
   -- the answer, from the fields that follow the version
